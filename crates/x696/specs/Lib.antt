@@ -37,3 +37,17 @@ pub mod OutcomeLaws
 pub mod DigitsLaws
 pub mod ValueLaws
 pub mod WellFormed
+pub mod FewestLaws
+pub mod SignedLaws
+pub mod LengthLaws
+pub mod VariableLaws
+pub mod TagLaws
+pub mod BitsLaws
+pub mod IntegerLaws
+pub mod EnumeratedLaws
+pub mod StringLaws
+pub mod LeafLaws
+pub mod Complete
+pub mod Sound
+pub mod Unique
+pub mod EncodeLaws
