@@ -13,18 +13,21 @@ pub mod Enumerated
 pub mod Real
 pub mod String
 pub mod Leaf
--- Types as trees: their values, their octets, and the reader
+-- Types as trees: their values, their octets, the reader, and the walk of a value list
 pub mod Types
 pub mod Fits
 pub mod Encode
 pub mod Read
 pub mod Walk
+pub mod WellFormed
 -- The type table
 pub mod Table
 pub mod TableCheck
 pub mod TableFault
 -- Paths, settings, and what each operation answers
 pub mod Path
+pub mod Apart
+pub mod Frame
 pub mod Setting
 pub mod Reply
 pub mod Operations
@@ -32,22 +35,42 @@ pub mod Editing
 -- Document 01's twelve cases
 pub mod Computing
 pub mod Cases
--- Laws
+-- Laws: octets and numbers
 pub mod OutcomeLaws
 pub mod DigitsLaws
-pub mod ValueLaws
-pub mod WellFormed
 pub mod FewestLaws
 pub mod SignedLaws
 pub mod LengthLaws
 pub mod VariableLaws
 pub mod TagLaws
 pub mod BitsLaws
+-- Laws: kinds and values
+pub mod ValueLaws
 pub mod IntegerLaws
 pub mod EnumeratedLaws
 pub mod StringLaws
 pub mod LeafLaws
+-- Laws: the round trip of a message, and what follows from it
 pub mod Complete
 pub mod Sound
 pub mod Unique
 pub mod EncodeLaws
+-- Laws: value lists
+pub mod WalkSound
+pub mod WalkComplete
+pub mod ListLaws
+-- Laws: the table
+pub mod TableTests
+pub mod TableLaws
+pub mod TableTags
+pub mod TableRows
+pub mod TableKinds
+pub mod TableTypes
+pub mod TableNesting
+-- Laws: paths, and what an edit changes
+pub mod ChildLaws
+pub mod ChildFits
+pub mod PathLaws
+pub mod ChildOctets
+pub mod Locality
+pub mod SettingLaws
