@@ -1,20 +1,18 @@
 -- Preambles: presence bits that are written are read back, and what is read was written so.
 -- Assumes nothing.
 use mathlib.Core.Path.{_≡_, refl, ap, sym, _∙_}
-use mathlib.Core.Bool.{Bool, true}
-use mathlib.Core.List.{List, [], _∷_, _++_}
+use mathlib.Core.List.{List, [], _++_}
 use Prim.Native.Nat.{ℕ, _+_, _*_, _^_, _/_, _%_, _<_}
 use native.Mathlib.Nat.{one-mul}
 use native.Mathlib.Omega.{arith}
 use lib.ListN.{length}
 use lib.Pow.{shl-lt, shl-shr, shr-lt, pow-pos, split, low}
-use lib.Dec.{eqb}
-use borrow.Author.Tests.{eqb-true, eq-eqb}
-use Rattle.x696.specs.Outcome.{Outcome, got, next, must}
+use borrow.Author.Tests.{eqb-true}
+use Rattle.x696.specs.Outcome.{got, next, must}
 use Rattle.x696.specs.OutcomeLaws.{next-inv, must-inv}
 use Rattle.x696.specs.Digits.{digits, fromDigits, Below}
-use Rattle.x696.specs.DigitsLaws.{digits-length, digits-below, fromDigits-lt, digits-fromDigits, fromDigits-digits, below-split}
-use Rattle.x696.specs.Length.{run}
+use Rattle.x696.specs.DigitsLaws.{digits-length, digits-below, fromDigits-lt, digits-fromDigits}
+use Rattle.x696.specs.DigitsLaws.{fromDigits-digits, below-split}
 use Rattle.x696.specs.LengthLaws.{run-complete, run-sound}
 use Rattle.x696.specs.Bits.{bitOctets, unusedBits, lowBitsClear, preamble, readPreamble}
 
@@ -31,7 +29,8 @@ pub preamble-none : (bs : List ℕ) → preamble 0 bs ≡ []
 unfolding preamble digits
 preamble-none bs = refl
 
-preamble-number : (n : ℕ) (bs : List ℕ) → length bs ≡ n → Below 1 bs → fromDigits 8 (preamble n bs) ≡ fromDigits 1 bs * 2 ^ unusedBits n
+preamble-number : (n : ℕ) (bs : List ℕ) → length bs ≡ n → Below 1 bs
+    → fromDigits 8 (preamble n bs) ≡ fromDigits 1 bs * 2 ^ unusedBits n
 unfolding preamble
 preamble-number n bs e b =
     let small : fromDigits 1 bs < 2 ^ n = rw (one-mul, e) at (fromDigits-lt 1 bs b) in
@@ -40,7 +39,8 @@ preamble-number n bs e b =
 shifted-clear : (a k : ℕ) → (a * 2 ^ k) % 2 ^ k ≡ 0
 shifted-clear a k = let e : a * 2 ^ k ≡ a * 2 ^ k + 0 = omega arith in ap (λ x. x % 2 ^ k) e ∙ low a k (pow-pos k)
 
-pub preamble-complete : (n p : ℕ) (bs r : List ℕ) → length bs ≡ n → Below 1 bs → readPreamble n p (preamble n bs ++ r) ≡ got bs r
+pub preamble-complete : (n p : ℕ) (bs r : List ℕ) → length bs ≡ n → Below 1 bs
+    → readPreamble n p (preamble n bs ++ r) ≡ got bs r
 unfolding readPreamble next must lowBitsClear
 preamble-complete n p bs r e b =
     let d : digits 1 n (fromDigits 1 bs) ≡ bs = rw (← e) (digits-fromDigits 1 bs b) in

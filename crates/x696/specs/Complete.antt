@@ -1,28 +1,31 @@
 -- The reader gives back each value that fits from its octets, whatever follows them.
 -- Assumes nothing.
-use mathlib.Core.Path.{_≡_, refl, ap, sym, _∙_}
-use mathlib.Core.Bool.{Bool, true, false, not}
-use mathlib.Core.List.{List, [], _∷_, _++_, append-assoc}
+use mathlib.Core.Path.{_≡_, refl, ap, _∙_}
+use mathlib.Core.Bool.{Bool, true, false}
+use mathlib.Core.List.{List, [], _++_, append-assoc}
 use Prim.Native.Nat.{ℕ, zero, suc, _+_, _<_, _≤_}
 use native.Mathlib.Omega.{arith}
 use lib.ListN.{length, drop, getD, length-append}
-use lib.Dec.{ltb, eqb}
 use borrow.Author.Tests.{lt-ltb}
-use Rattle.x696.specs.Outcome.{Outcome, got, next, must, choose}
+use Rattle.x696.specs.Outcome.{got, next, must, choose}
 use Rattle.x696.specs.Digits.{Below}
-use Rattle.x696.specs.Tag.{Tag, tagOctets}
+use Rattle.x696.specs.Tag.{tagOctets}
 use Rattle.x696.specs.TagLaws.{tag-complete}
 use Rattle.x696.specs.Bits.{preamble}
 use Rattle.x696.specs.BitsLaws.{preamble-complete}
 use Rattle.x696.specs.Variable.{variableUnsigned}
 use Rattle.x696.specs.VariableLaws.{unsigned-complete}
-use Rattle.x696.specs.Value.{Val, node, Vals, noValues, value, only, size, sizes, valueCount, same}
+use Rattle.x696.specs.Value.{Val, node, Vals, only, size, sizes, valueCount}
 use Rattle.x696.specs.ValueLaws.{same-refl}
 use Rattle.x696.specs.LeafLaws.{leaf-complete}
-use Rattle.x696.specs.Types.{Ty, leaf, sequence, sequenceOf, choice, Items, noItems, item, itemCount, presenceCount, markCount, missing, alternative, tagAt}
-use Rattle.x696.specs.Fits.{Fits, leaf-fits, sequence-fits, sequenceOf-fits, choice-fits, FitsComponent, plain, carried, left-out, FitComponents, no-components, component, FitAll, no-elements, element, FitsAlternative, this, later}
-use Rattle.x696.specs.Encode.{bit, presenceBits, presence, carriedOctets, each, encode, encodeComponents, encodeAlternative}
-use Rattle.x696.specs.Read.{Message, message, offset, times, counted, componentBy, readInside, readComponents, readAlternative, read}
+use Rattle.x696.specs.Types.{Ty, Items, noItems, item, itemCount, presenceCount, markCount, missing, tagAt}
+use Rattle.x696.specs.Fits.{Fits, leaf-fits, sequence-fits, sequenceOf-fits, choice-fits, FitsComponent, plain}
+use Rattle.x696.specs.Fits.{carried, left-out, FitComponents, no-components, component, FitAll, no-elements}
+use Rattle.x696.specs.Fits.{element, FitsAlternative, this, later}
+use Rattle.x696.specs.Encode.{bit, presenceBits, presence, carriedOctets, each, encode, encodeComponents}
+use Rattle.x696.specs.Encode.{encodeAlternative}
+use Rattle.x696.specs.Read.{message, times, counted, componentBy, readInside, readComponents, readAlternative}
+use Rattle.x696.specs.Read.{read}
 
 bit-lt : (b : Bool) → bit b < 2
 unfolding bit
@@ -48,7 +51,8 @@ presence-bits (component {m = zero} f h) = presence-bits h
 presence-bits (component {m = suc m} f h) = (bit-lt _, presence-bits h)
 
 -- behind a component's own presence bits come the others'
-pub presence-rest : (m d : ℕ) (t : Ty) (v : Val) (bits : List ℕ) → drop (presenceCount m) (presenceBits m d t v ++ bits) ≡ bits
+pub presence-rest : (m d : ℕ) (t : Ty) (v : Val) (bits : List ℕ)
+    → drop (presenceCount m) (presenceBits m d t v ++ bits) ≡ bits
 unfolding presenceBits presenceCount
 presence-rest zero d t v bits = refl
 presence-rest (suc m) d t v bits = refl
@@ -81,7 +85,9 @@ alternative-inside (later h) = omega (arith, alternative-inside h)
 
 module _ (limit : ℕ) where
   mutual
-    unfolding readInside readComponents readAlternative counted componentBy next must choose times encode encodeComponents encodeAlternative carriedOctets each size presence presenceBits presenceCount bit markCount valueCount inner
+    unfolding readInside readComponents readAlternative counted componentBy next must choose times encode
+        encodeComponents encodeAlternative carriedOctets each size presence presenceBits presenceCount bit
+        markCount valueCount inner
 
     completeInside : {t : Ty} {v : Val} → Fits t v → (end c c′ : ℕ) (r : List ℕ) → c′ ≡ c + size v → c′ ≤ limit
         → readInside limit t end (message (encode t v ++ r) (suc c)) ≡ got v (message r c′)
@@ -109,7 +115,8 @@ module _ (limit : ℕ) where
           completeAlternative h end (suc c) c′ r (omega arith) b,
         )
 
-    completeComponent : {m d : ℕ} {t : Ty} {v : Val} → FitsComponent m d t v → (bits : List ℕ) (end c c′ : ℕ) (r : List ℕ) → c′ ≡ c + size v → c′ ≤ limit
+    completeComponent : {m d : ℕ} {t : Ty} {v : Val} → FitsComponent m d t v
+        → (bits : List ℕ) (end c c′ : ℕ) (r : List ℕ) → c′ ≡ c + size v → c′ ≤ limit
         → componentBy limit (λ s. counted limit end s λ s. readInside limit t end s) m d t (getD (presenceBits m d t v ++ bits) 0 0) end (message (carriedOctets m d t v (encode t v) ++ r) c) ≡ got v (message r c′)
     completeComponent (plain {v = v} f) bits end c c′ r e b = rw (lt-ltb c limit (omega (arith, size-pos v)), completeInside f end c c′ r e b)
     completeComponent (carried {v = v} f k) bits end c c′ r e b = rw (k, lt-ltb c limit (omega (arith, size-pos v)), completeInside f end c c′ r e b, k)
@@ -118,7 +125,8 @@ module _ (limit : ℕ) where
         let q : c′ ≡ suc c = omega arith in
         rw (k, same-refl (missing (suc m) d t), lt-ltb c limit (omega arith), q)
 
-    completeComponents : {is : Items} {vs : Vals} → FitComponents is vs → (end c c′ : ℕ) (r : List ℕ) → c′ ≡ c + sizes vs → c′ ≤ limit
+    completeComponents : {is : Items} {vs : Vals} → FitComponents is vs → (end c c′ : ℕ) (r : List ℕ)
+        → c′ ≡ c + sizes vs → c′ ≤ limit
         → readComponents limit is (presence is vs) end (message (encodeComponents is vs ++ r) c) ≡ got vs (message r c′)
     completeComponents no-components end c c′ r e b = let q : c′ ≡ c = omega arith in rw q
     completeComponents (component {m = m} {d = d} {t = t} {is = is} {v = v} {vs = vs} f h) end c c′ r e b =
@@ -140,7 +148,8 @@ module _ (limit : ℕ) where
           completeAll h end (c + size v) c′ r (omega arith) b,
         )
 
-    completeAlternative : {is : Items} {n : ℕ} {v : Val} → FitsAlternative is n v → (end c c′ : ℕ) (r : List ℕ) → c′ ≡ c + size v → c′ ≤ limit
+    completeAlternative : {is : Items} {n : ℕ} {v : Val} → FitsAlternative is n v → (end c c′ : ℕ) (r : List ℕ)
+        → c′ ≡ c + size v → c′ ≤ limit
         → readAlternative limit is n end (message (inner is n v ++ r) c) ≡ got v (message r c′)
     completeAlternative (this {v = v} f) end c c′ r e b = rw (lt-ltb c limit (omega (arith, size-pos v)), completeInside f end c c′ r e b)
     completeAlternative (later h) end c c′ r e b = rw (completeAlternative h end c c′ r e b)

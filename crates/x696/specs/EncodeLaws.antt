@@ -1,33 +1,33 @@
 -- `encode` writes octets: each is below 256.
 -- A length has to be below 2 ^ 64 (document 01 stops at 65,535 octets); tag classes are 0 to 3 (a well-formed type).
 -- Assumes nothing.
-use mathlib.Core.Path.{_≡_, refl, ap, sym, _∙_}
 use mathlib.Core.Bool.{Bool, true, false}
 use mathlib.Core.List.{List, [], _∷_, _++_}
-use Prim.Native.Nat.{ℕ, zero, suc, _+_, _*_, _^_, _<_, _≤_}
-use native.Mathlib.Nat.{le-trans}
+use Prim.Native.Nat.{ℕ, suc, _^_, _<_}
 use native.Mathlib.Omega.{arith}
 use lib.ListN.{length, length-append}
-use lib.Dec.{ltb}
 use Rattle.x696.specs.Outcome.{choose}
-use Rattle.x696.specs.OutcomeLaws.{cases, cases-lt}
+use Rattle.x696.specs.OutcomeLaws.{cases-lt}
 use Rattle.x696.specs.Digits.{digits, Below}
-use Rattle.x696.specs.DigitsLaws.{digits-below, digits-length, below-append}
+use Rattle.x696.specs.DigitsLaws.{digits-below, below-append}
 use Rattle.x696.specs.Fewest.{fewest, unsignedOctets, fewestSigned, signedOctets}
 use Rattle.x696.specs.FewestLaws.{fewest-least}
 use Rattle.x696.specs.SignedLaws.{fewestSigned-le}
 use Rattle.x696.specs.Length.{lengthOctets}
 use Rattle.x696.specs.Variable.{variableUnsigned, variableSigned}
-use Rattle.x696.specs.Tag.{Tag, tag, groupOctets, tagOctets}
+use Rattle.x696.specs.Tag.{tag, groupOctets, tagOctets}
 use Rattle.x696.specs.Bits.{bitOctets, unusedBits, preamble}
 use Rattle.x696.specs.Integer.{Form, fixedUnsigned, fixedSigned, anyUnsigned, anySigned, integerForm, formOctets}
 use Rattle.x696.specs.Enumerated.{enumeratedOctets}
 use Rattle.x696.specs.Real.{realOctets}
 use Rattle.x696.specs.String.{fixedSize, textOctets, bitStringOctets}
-use Rattle.x696.specs.Value.{Val, node, Vals, noValues, value, only}
-use Rattle.x696.specs.Leaf.{Leaf, LeafFits, boolean-fits, null-fits, integer-fits, enumerated-fits, real-fits, octets-fit, visible-fits, bits-fit, encodeLeaf}
-use Rattle.x696.specs.Types.{Ty, leaf, sequence, sequenceOf, choice, Items, noItems, item, markCount, missing}
-use Rattle.x696.specs.Fits.{Fits, leaf-fits, sequence-fits, sequenceOf-fits, choice-fits, FitsComponent, plain, carried, left-out, FitComponents, no-components, component, FitAll, no-elements, element, FitsAlternative, this, later}
+use Rattle.x696.specs.Value.{Val, Vals, only}
+use Rattle.x696.specs.Leaf.{Leaf, LeafFits, boolean-fits, null-fits, integer-fits, enumerated-fits, real-fits}
+use Rattle.x696.specs.Leaf.{octets-fit, visible-fits, bits-fit, encodeLeaf}
+use Rattle.x696.specs.Types.{Ty, Items, markCount, missing}
+use Rattle.x696.specs.Fits.{Fits, leaf-fits, sequence-fits, sequenceOf-fits, choice-fits, FitsComponent, plain}
+use Rattle.x696.specs.Fits.{carried, left-out, FitComponents, no-components, component, FitAll, no-elements}
+use Rattle.x696.specs.Fits.{element, FitsAlternative, this, later}
 use Rattle.x696.specs.Encode.{presence, carriedOctets, each, encode, encodeComponents, encodeAlternative}
 use Rattle.x696.specs.WellFormed.{WellFormed, WellFormedComponents, WellFormedAlternatives}
 use Rattle.x696.specs.ValueLaws.{same-refl}
@@ -72,7 +72,8 @@ counted-octets true os ys b c h = b
 counted-octets false os ys b c h =
     below-append 8 (lengthOctets (length ys)) ys (length-octets (length ys) (omega (arith, h, length-append (lengthOctets (length ys)) ys))) c
 
-leaf-octets : {l : Leaf} {n : ℕ} {os : List ℕ} → LeafFits l n os → length (encodeLeaf l n os) < 2 ^ 64 → Below 8 (encodeLeaf l n os)
+leaf-octets : {l : Leaf} {n : ℕ} {os : List ℕ} → LeafFits l n os → length (encodeLeaf l n os) < 2 ^ 64
+    → Below 8 (encodeLeaf l n os)
 unfolding encodeLeaf textOctets bitStringOctets
 leaf-octets (boolean-fits l) h = (omega arith, tt)
 leaf-octets null-fits h = tt
@@ -115,13 +116,15 @@ mutual
       (elements-octets f w (omega (arith, h, length-append (variableUnsigned n) (each (λ v. encode t v) vs))))
   encode-octets (choice-fits k f) w h = alternative-octets f (w .0) h
 
-  component-octets : {m d : ℕ} {t : Ty} {v : Val} → FitsComponent m d t v → WellFormed t → length (carriedOctets m d t v (encode t v)) < 2 ^ 64
+  component-octets : {m d : ℕ} {t : Ty} {v : Val} → FitsComponent m d t v → WellFormed t
+      → length (carriedOctets m d t v (encode t v)) < 2 ^ 64
       → Below 8 (carriedOctets m d t v (encode t v))
   component-octets (plain f) w h = encode-octets f w h
   component-octets (carried f e) w h = let h′ = rw e at h in rw e (encode-octets f w h′)
   component-octets (left-out {m = m} {d = d} {t = t} e) w h = rw (e, same-refl (missing (suc m) d t)) tt
 
-  components-octets : {is : Items} {vs : Vals} → FitComponents is vs → WellFormedComponents is → length (encodeComponents is vs) < 2 ^ 64
+  components-octets : {is : Items} {vs : Vals} → FitComponents is vs → WellFormedComponents is
+      → length (encodeComponents is vs) < 2 ^ 64
       → Below 8 (encodeComponents is vs)
   components-octets no-components w h = tt
   components-octets (component {m = m} {d = d} {t = t} {is = is} {v = v} {vs = vs} f g) w h =
@@ -129,13 +132,15 @@ mutual
       below-append 8 (carriedOctets m d t v (encode t v)) (encodeComponents is vs) (component-octets f (w .0) (omega (arith, h, n)))
       (components-octets g (w .2) (omega (arith, h, n)))
 
-  elements-octets : {t : Ty} {vs : Vals} → FitAll t vs → WellFormed t → length (each (λ v. encode t v) vs) < 2 ^ 64 → Below 8 (each (λ v. encode t v) vs)
+  elements-octets : {t : Ty} {vs : Vals} → FitAll t vs → WellFormed t → length (each (λ v. encode t v) vs) < 2 ^ 64
+      → Below 8 (each (λ v. encode t v) vs)
   elements-octets no-elements w h = tt
   elements-octets (element {t = t} {v = v} {vs = vs} f g) w h =
       let n = length-append (encode t v) (each (λ v. encode t v) vs) in
       below-append 8 (encode t v) (each (λ v. encode t v) vs) (encode-octets f w (omega (arith, h, n))) (elements-octets g w (omega (arith, h, n)))
 
-  alternative-octets : {is : Items} {n : ℕ} {v : Val} → FitsAlternative is n v → WellFormedAlternatives is → length (encodeAlternative is n (only v)) < 2 ^ 64
+  alternative-octets : {is : Items} {n : ℕ} {v : Val} → FitsAlternative is n v → WellFormedAlternatives is
+      → length (encodeAlternative is n (only v)) < 2 ^ 64
       → Below 8 (encodeAlternative is n (only v))
   alternative-octets (this {a = a} {b = b} {t = t} {v = v} f) w h =
       below-append 8 (tagOctets (tag a b)) (encode t v) (tag-octets a b (w .0))

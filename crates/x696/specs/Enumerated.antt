@@ -1,7 +1,7 @@
 -- Clause 11, ENUMERATED, with 31.5: 0 to 127 in one octet (11.3), else 128 plus a count and the signed number (11.4).
 -- The NOTE to 31.5 is wrong (document 01): 128 is 82 00 80. Narrower than X.696: numbers stop at 64 bits (8, WIDE).
 -- Assumes nothing.
-use mathlib.Core.Bool.{Bool, true, false, _||_}
+use mathlib.Core.Bool.{Bool, false, _||_}
 use mathlib.Core.List.{List, [], _∷_}
 use Prim.Native.Nat.{ℕ, _+_, _-_}
 use lib.ListN.{length}

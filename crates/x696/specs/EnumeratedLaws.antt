@@ -1,22 +1,20 @@
 -- ENUMERATED: what is written is read back, and what is read was written so.
 -- Assumes nothing.
-use mathlib.Core.Path.{_≡_, refl, sym, _∙_}
-use mathlib.Core.Bool.{Bool, true, cond}
+use mathlib.Core.Path.{_≡_, sym}
 use mathlib.Core.List.{List, [], _∷_, _++_}
 use Prim.Native.Nat.{ℕ, _+_, _*_, _^_, _-_, _<_, _≤_}
-use native.Mathlib.Nat.{le-trans}
 use native.Mathlib.Omega.{arith}
 use lib.ListN.{length}
-use lib.Dec.{ltb, leb}
+use lib.Dec.{ltb}
 use lib.Pow.{pow-mono}
 use borrow.Author.Tests.{ltb-true, ltb-false, leb-true, lt-ltb, le-ltb, le-leb}
-use Rattle.x696.specs.Outcome.{Outcome, got, next, must, choose}
+use Rattle.x696.specs.Outcome.{got, next, must, choose}
 use Rattle.x696.specs.OutcomeLaws.{next-inv, must-inv, choose-inv, cases, cases-lt}
 use Rattle.x696.specs.Digits.{fromDigits, Below}
 use Rattle.x696.specs.DigitsLaws.{below-split}
-use Rattle.x696.specs.Fewest.{fewestSigned, signedOctets, wordIn, isFewestSigned, signedWord}
+use Rattle.x696.specs.Fewest.{fewestSigned, signedOctets, wordIn, signedWord}
 use Rattle.x696.specs.SignedLaws.{fewestSigned-le, fewestSigned-pos, signed-length, signed-back, signed-only}
-use Rattle.x696.specs.Length.{octet, run}
+use Rattle.x696.specs.Length.{octet}
 use Rattle.x696.specs.LengthLaws.{octet-sound, run-complete, run-sound}
 use Rattle.x696.specs.Enumerated.{enumeratedOctets, readEnumerated}
 

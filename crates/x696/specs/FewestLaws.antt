@@ -1,19 +1,19 @@
 -- Fewest octets: that many hold the number, and no fewer do; digits are the fewest exactly if there is one, or the first is not 0.
 -- Assumes nothing.
-use mathlib.Core.Path.{_≡_, refl, sym, _∙_}
-use mathlib.Core.Logic.{_⊎_, inl, inr, ⊎-elim}
-use mathlib.Core.Bool.{Bool, true, false}
+use mathlib.Core.Path.{_≡_, sym, _∙_}
+use mathlib.Core.Bool.{true, false}
 use mathlib.Core.List.{List, [], _∷_}
 use Prim.Native.Nat.{ℕ, zero, suc, _+_, _*_, _^_, _/_, _<_, _≤_}
-use native.Mathlib.Nat.{mul-one, div-lt-iff-lt-mul, div-lt-self, le-trans, mul-le-mul-left, mul-zero, zero-mul, zero-add}
+use native.Mathlib.Nat.{mul-one, div-lt-iff-lt-mul, div-lt-self, le-trans, mul-le-mul-left, mul-zero, zero-mul}
+use native.Mathlib.Nat.{zero-add}
 use native.Mathlib.Omega.{arith}
 use lib.ListN.{length}
-use lib.Dec.{ltb, eqb}
+use lib.Dec.{ltb}
 use lib.Pow.{pow-pos, pow-mono, pow-add}
 use borrow.Author.Tests.{lt-ltb, eqb-true, eq-eqb, ne-eqb}
 use Rattle.x696.specs.Outcome.{choose}
 use Rattle.x696.specs.OutcomeLaws.{cases, cases-lt}
-use Rattle.x696.specs.Digits.{digits, fromDigits, Below}
+use Rattle.x696.specs.Digits.{fromDigits, Below}
 use Rattle.x696.specs.DigitsLaws.{digits-length, digits-fromDigits, fromDigits-digits, fromDigits-lt, mul-step}
 use Rattle.x696.specs.Fewest.{fewestIn, fewest, unsignedOctets, isFewest}
 

@@ -3,7 +3,7 @@
 -- Narrower than X.696: values and bounds stop at 64 bits. Assumes nothing.
 use mathlib.Core.Bool.{Bool, cond, not, _&&_, _||_}
 use mathlib.Core.List.{List}
-use Prim.Native.Nat.{ℕ, _+_, _*_, _^_, _/_, _%_, _-_}
+use Prim.Native.Nat.{ℕ, _+_, _^_, _/_, _%_, _-_}
 use lib.Dec.{ltb, leb, eqb}
 use Rattle.x696.specs.Outcome.{Outcome, got, next}
 use Rattle.x696.specs.Digits.{digits, fromDigits}

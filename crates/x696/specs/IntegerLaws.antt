@@ -1,25 +1,26 @@
 -- INTEGER: the form that the bounds give holds every word that they allow; what is written is read back, and what is read was written so.
 -- Assumes nothing.
-use mathlib.Core.Path.{_≡_, refl, sym, _∙_}
-use mathlib.Core.Bool.{Bool, true, false, cond, not, _&&_, _||_}
-use mathlib.Core.List.{List, [], _∷_, _++_}
+use mathlib.Core.Path.{_≡_, sym, _∙_}
+use mathlib.Core.Bool.{true, not, _&&_, _||_}
+use mathlib.Core.List.{List, _++_}
 use Prim.Native.Nat.{ℕ, zero, suc, _+_, _*_, _^_, _%_, _-_, _<_, _≤_}
 use native.Mathlib.Nat.{mod-eq-of-lt}
 use native.Mathlib.Omega.{arith}
 use lib.ListN.{length}
-use lib.Dec.{ltb, leb, eqb}
-use lib.Pow.{pow-mono}
-use borrow.Author.Tests.{ltb-true, ltb-false, leb-true}
-use Rattle.x696.specs.Outcome.{Outcome, got, next, must}
+use lib.Dec.{ltb, leb}
+use borrow.Author.Tests.{ltb-true, leb-true}
+use Rattle.x696.specs.Outcome.{got, next}
 use Rattle.x696.specs.OutcomeLaws.{next-inv, cases, cases-lt, and-both}
 use Rattle.x696.specs.Digits.{digits, fromDigits, Below}
-use Rattle.x696.specs.DigitsLaws.{digits-length, fromDigits-lt, digits-fromDigits, fromDigits-digits, fromDigits-digits-mod, digits-low, below-split}
+use Rattle.x696.specs.DigitsLaws.{digits-length, fromDigits-lt, digits-fromDigits, fromDigits-digits}
+use Rattle.x696.specs.DigitsLaws.{fromDigits-digits-mod, digits-low, below-split}
 use Rattle.x696.specs.Fewest.{magnitude, wordIn, signedWord}
 use Rattle.x696.specs.SignedLaws.{octets-le, word-back, word-in}
-use Rattle.x696.specs.Length.{run}
 use Rattle.x696.specs.LengthLaws.{run-complete, run-sound}
 use Rattle.x696.specs.VariableLaws.{unsigned-complete, unsigned-sound, signed-complete, signed-sound}
-use Rattle.x696.specs.Integer.{hasLower, hasUpper, rank, isUnsigned, allowed, unsignedWidth, within, signedWidth, Form, fixedUnsigned, fixedSigned, anyUnsigned, anySigned, integerForm, formOctets, readForm}
+use Rattle.x696.specs.Integer.{hasLower, hasUpper, rank, isUnsigned, allowed, unsignedWidth, within, signedWidth}
+use Rattle.x696.specs.Integer.{Form, fixedUnsigned, fixedSigned, anyUnsigned, anySigned, integerForm, formOctets}
+use Rattle.x696.specs.Integer.{readForm}
 
 -- the words that a form holds
 abbrev pub Holds : Form → (word : ℕ) → Type 0
@@ -39,7 +40,8 @@ unsignedWidth-holds w b h g =
     (λ f _. cases-lt b (2 ^ 32) (λ k l. rw (e, f, k) (omega arith)) (λ k _. rw (e, f, k) g)))
 
 -- a word between two bounds that lie in -h .. h - 1
-within-holds : (h a b w : ℕ) → h ≤ 2 ^ 63 → w < 2 ^ 64 → rank a ≤ rank w → rank w ≤ rank b → within h a b ≡ true → magnitude w < h
+within-holds : (h a b w : ℕ) → h ≤ 2 ^ 63 → w < 2 ^ 64 → rank a ≤ rank w → rank w ≤ rank b → within h a b ≡ true
+    → magnitude w < h
 unfolding within magnitude rank
 within-holds h a b w l g x y e =
     let (e₁, e₂) = and-both (leb (2 ^ 63 - h) ((a + 2 ^ 63) % 2 ^ 64)) _ e in
@@ -51,7 +53,8 @@ magnitude-fits : (w : ℕ) → w < 2 ^ 64 → 2 * magnitude w < 2 ^ 64
 unfolding magnitude
 magnitude-fits w h = cases-lt w (2 ^ 63) (λ e l. rw e (omega arith)) (λ e l. rw e (omega arith))
 
-signedWidth-holds : (a b w : ℕ) → w < 2 ^ 64 → rank a ≤ rank w → rank w ≤ rank b → 2 * magnitude w < 2 ^ (8 * signedWidth a b)
+signedWidth-holds : (a b w : ℕ) → w < 2 ^ 64 → rank a ≤ rank w → rank w ≤ rank b
+    → 2 * magnitude w < 2 ^ (8 * signedWidth a b)
 unfolding signedWidth
 signedWidth-holds a b w g x y =
     cases (within (2 ^ 7) a b)
@@ -121,7 +124,8 @@ integerForm-sane f a b =
     (λ u. cases (hasUpper f) (λ v. rw (u, v) (unsignedWidth-range b)) (λ v. rw (u, v) tt))
     (λ u. cases (hasLower f && hasUpper f) (λ v. rw (u, v) (signedWidth-range a b)) (λ v. rw (u, v) tt))
 
-pub form-complete : (z : Form) (w p : ℕ) (r : List ℕ) → Sane z → w < 2 ^ 64 → Holds z w → readForm z p (formOctets z w ++ r) ≡ got w r
+pub form-complete : (z : Form) (w p : ℕ) (r : List ℕ) → Sane z → w < 2 ^ 64 → Holds z w
+    → readForm z p (formOctets z w ++ r) ≡ got w r
 unfolding readForm formOctets next signedWord
 form-complete (fixedUnsigned k) w p r s l h = rw (run-complete p (digits 8 k w) r k (sym (digits-length 8 k w)), fromDigits-digits 8 k w h)
 form-complete (fixedSigned zero) w p r s l h = absurd (omega (arith, s .0))
@@ -135,7 +139,8 @@ form-complete (fixedSigned (suc k)) w p r s l h =
 form-complete anyUnsigned w p r s l h = unsigned-complete p w r l
 form-complete anySigned w p r s l h = signed-complete p w r l
 
-signed-run : (os : List ℕ) (k : ℕ) → Below 8 os → length os ≡ k → 1 ≤ k → k ≤ 8 → (digits 8 k (signedWord os) ≡ os) × (signedWord os < 2 ^ 64)
+signed-run : (os : List ℕ) (k : ℕ) → Below 8 os → length os ≡ k → 1 ≤ k → k ≤ 8
+    → (digits 8 k (signedWord os) ≡ os) × (signedWord os < 2 ^ 64)
 unfolding signedWord
 signed-run os zero b l s s′ = absurd (omega arith)
 signed-run os (suc k) b l s s′ =

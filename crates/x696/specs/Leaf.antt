@@ -14,7 +14,8 @@ use Rattle.x696.specs.Bits.{bitOctets, unusedBits, lowBitsClear}
 use Rattle.x696.specs.Integer.{allowed, integerForm, formOctets, readForm}
 use Rattle.x696.specs.Enumerated.{listed, enumeratedOctets, readEnumerated}
 use Rattle.x696.specs.Real.{Precision, binary32, binary64, realOctets, realAllowed}
-use Rattle.x696.specs.String.{sizeAllowed, anyOctets, visible, textOctets, readText, bitStringOctets, readBitString}
+use Rattle.x696.specs.String.{sizeAllowed, anyOctets, visible, textOctets, readText, bitStringOctets}
+use Rattle.x696.specs.String.{readBitString}
 use Rattle.x696.specs.Value.{Val, node, noValues}
 
 -- flags, A and B are the row's words
@@ -46,8 +47,10 @@ pub data LeafFits : Leaf → (number : ℕ) → (octets : List ℕ) → Type 0 w
   integer-fits : {f a b n : ℕ} → n < 2 ^ 64 → allowed f a b n ≡ true → LeafFits (integer f a b) n []
   enumerated-fits : {ns : List ℕ} {n : ℕ} → n < 2 ^ 64 → listed n ns ≡ true → LeafFits (enumerated ns) n []
   real-fits : {w : Precision} {n : ℕ} → n < 2 ^ (8 * realOctets w) → realAllowed w n ≡ true → LeafFits (real w) n []
-  octets-fit : {f a b n : ℕ} {os : List ℕ} → Below 8 os → length os ≡ n → sizeAllowed f a b n ≡ true → LeafFits (octetString f a b) n os
-  visible-fits : {f a b n : ℕ} {os : List ℕ} → Below 8 os → length os ≡ n → sizeAllowed f a b n ≡ true → visible os ≡ true
+  octets-fit : {f a b n : ℕ} {os : List ℕ} → Below 8 os → length os ≡ n → sizeAllowed f a b n ≡ true
+      → LeafFits (octetString f a b) n os
+  visible-fits : {f a b n : ℕ} {os : List ℕ} → Below 8 os → length os ≡ n → sizeAllowed f a b n ≡ true
+      → visible os ≡ true
       → LeafFits (visibleString f a b) n os
   bits-fit : {f a b n : ℕ} {os : List ℕ} → Below 8 os → length os ≡ bitOctets n → lowBitsClear (unusedBits n) os ≡ true
       → sizeAllowed f a b n ≡ true → LeafFits (bitString f a b) n os

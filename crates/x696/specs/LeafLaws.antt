@@ -1,19 +1,19 @@
 -- The kinds without components: what is written is read back, and what is read was written so.
 -- Assumes nothing.
-use mathlib.Core.Path.{_≡_, refl, sym, _∙_}
-use mathlib.Core.Logic.{_⊎_, inl, inr, ⊎-elim}
-use mathlib.Core.Bool.{Bool, true, false, _||_}
-use mathlib.Core.List.{List, [], _∷_, _++_}
-use Prim.Native.Nat.{ℕ, zero, suc, _+_, _*_, _^_, _/_, _<_}
+use mathlib.Core.Path.{_≡_, refl, sym}
+use mathlib.Core.Logic.{⊎-elim}
+use mathlib.Core.Bool.{true, _||_}
+use mathlib.Core.List.{List, [], _++_}
+use Prim.Native.Nat.{ℕ, zero, suc, _*_, _/_, _<_}
 use native.Mathlib.Omega.{arith}
 use lib.ListN.{length}
 use lib.Dec.{eqb}
 use borrow.Author.Tests.{eqb-true}
-use Rattle.x696.specs.Outcome.{Outcome, got, next, must}
+use Rattle.x696.specs.Outcome.{got, next, must}
 use Rattle.x696.specs.OutcomeLaws.{next-inv, must-inv, or-either}
 use Rattle.x696.specs.Digits.{digits, fromDigits, Below}
 use Rattle.x696.specs.DigitsLaws.{digits-length, fromDigits-lt, digits-fromDigits, fromDigits-digits, below-split}
-use Rattle.x696.specs.Length.{octet, run}
+use Rattle.x696.specs.Length.{octet}
 use Rattle.x696.specs.LengthLaws.{octet-sound, run-complete, run-sound}
 use Rattle.x696.specs.Integer.{integerForm}
 use Rattle.x696.specs.IntegerLaws.{allowed-holds, integerForm-sane, form-complete, form-sound}
@@ -22,7 +22,9 @@ use Rattle.x696.specs.Real.{realOctets}
 use Rattle.x696.specs.String.{anyOctets, visible}
 use Rattle.x696.specs.StringLaws.{text-complete, text-sound, bitString-complete, bitString-sound}
 use Rattle.x696.specs.Value.{Val, node, noValues}
-use Rattle.x696.specs.Leaf.{Leaf, boolean, null, integer, enumerated, real, octetString, bitString, visibleString, leafKind, LeafFits, boolean-fits, null-fits, integer-fits, enumerated-fits, real-fits, octets-fit, visible-fits, bits-fit, encodeLeaf, readLeaf}
+use Rattle.x696.specs.Leaf.{Leaf, boolean, null, integer, enumerated, real, octetString, bitString, visibleString}
+use Rattle.x696.specs.Leaf.{leafKind, LeafFits, boolean-fits, null-fits, integer-fits, enumerated-fits, real-fits}
+use Rattle.x696.specs.Leaf.{octets-fit, visible-fits, bits-fit, encodeLeaf, readLeaf}
 
 pub leaf-complete : {l : Leaf} {n : ℕ} {os : List ℕ} → LeafFits l n os → (p : ℕ) (r : List ℕ)
     → readLeaf l p (encodeLeaf l n os ++ r) ≡ got (node (leafKind l) n os noValues) r
@@ -52,8 +54,10 @@ truth-octet x e =
     (λ e. rw (eqb-true x 255 e) (omega arith, refl))
     (or-either (eqb x 0) (eqb x 255) e)
 
-pub leaf-sound : (l : Leaf) (p : ℕ) (s : List ℕ) {v : Val} {r : List ℕ} {X : Type 0} → Below 8 s → readLeaf l p s ≡ got v r
-    → ((n : ℕ) (os : List ℕ) → LeafFits l n os → v ≡ node (leafKind l) n os noValues → s ≡ encodeLeaf l n os ++ r → X) → X
+pub leaf-sound : (l : Leaf) (p : ℕ) (s : List ℕ) {v : Val} {r : List ℕ} {X : Type 0} → Below 8 s
+    → readLeaf l p s ≡ got v r
+    → ((n : ℕ) (os : List ℕ) → LeafFits l n os → v ≡ node (leafKind l) n os noValues → s ≡ encodeLeaf l n os ++ r
+    → X) → X
 unfolding readLeaf encodeLeaf leafKind
 leaf-sound boolean p s b e k =
     next-inv _ _ e λ x r₁ was then.

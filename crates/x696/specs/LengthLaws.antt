@@ -1,19 +1,17 @@
 -- Octets, runs and length determinants: what is written is read back, and what is read was written so.
 -- Assumes nothing.
-use mathlib.Core.Path.{_≡_, refl, sym, _∙_}
-use mathlib.Core.Bool.{Bool, true}
-use mathlib.Core.List.{List, [], _∷_, _++_, append-assoc}
-use Prim.Native.Nat.{ℕ, _+_, _-_, _<_, _≤_}
+use mathlib.Core.Path.{_≡_, refl, sym}
+use mathlib.Core.List.{List, [], _∷_, _++_}
+use Prim.Native.Nat.{ℕ, _+_, _-_}
 use native.Mathlib.Omega.{arith}
 use lib.ListN.{length, take, drop, length-append, take-append-drop}
 use lib.Seq.{take-append-seam, drop-append-seam, length-take-le}
-use lib.Dec.{ltb, leb}
 use borrow.Author.Tests.{ltb-false, leb-true, le-ltb, le-leb}
-use Rattle.x696.specs.Outcome.{Outcome, got, next, must, choose}
+use Rattle.x696.specs.Outcome.{got, next, must, choose}
 use Rattle.x696.specs.OutcomeLaws.{next-inv, must-inv, choose-inv, refused-never, cases-lt}
 use Rattle.x696.specs.Digits.{fromDigits, Below}
 use Rattle.x696.specs.DigitsLaws.{below-split}
-use Rattle.x696.specs.Fewest.{fewest, unsignedOctets, isFewest}
+use Rattle.x696.specs.Fewest.{fewest, unsignedOctets}
 use Rattle.x696.specs.FewestLaws.{unsigned-back, unsigned-length, unsigned-fewest, unsigned-only, isFewest-length}
 use Rattle.x696.specs.Length.{octet, run, lengthOctets, readLength, readRun}
 
@@ -52,7 +50,8 @@ length-complete p n r =
       le-leb 128 n h,
     ))
 
-pub length-sound : (p : ℕ) (s : List ℕ) {n : ℕ} {r : List ℕ} → Below 8 s → readLength p s ≡ got n r → s ≡ lengthOctets n ++ r
+pub length-sound : (p : ℕ) (s : List ℕ) {n : ℕ} {r : List ℕ} → Below 8 s → readLength p s ≡ got n r
+    → s ≡ lengthOctets n ++ r
 unfolding readLength lengthOctets choose
 length-sound p s {n} {r} b e =
     next-inv _ _ e λ x r₁ was then.

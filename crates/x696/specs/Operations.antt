@@ -1,7 +1,7 @@
 -- What each operation answers on every input: number, part, place, counts, and every word and octet of lent memory.
 -- Order (document 01, "Replies"): 1, 2, 3; then as each operation says. A refusal leaves every lent buffer as it was; on 0 what lies
 -- past the stated counts stays too. Contracts are equations with these definitions. Assumes nothing.
-use mathlib.Core.Bool.{Bool, _&&_}
+use mathlib.Core.Bool.{_&&_}
 use mathlib.Core.List.{List, _++_}
 use Prim.Native.Nat.{ℕ, _*_, _/_, _%_}
 use lib.ListN.{length, drop}

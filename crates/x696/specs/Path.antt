@@ -3,7 +3,6 @@
 -- A path may end at an ABSENT component but not pass it: ABSENT has no children. Assumes nothing.
 use mathlib.Core.List.{List, [], _∷_, _++_}
 use Prim.Native.Nat.{ℕ, zero, suc}
-use Rattle.x696.specs.Outcome.{Outcome, refused, got, next}
 use Rattle.x696.specs.Tag.{tagOctets}
 use Rattle.x696.specs.Bits.{preamble}
 use Rattle.x696.specs.Variable.{variableUnsigned}

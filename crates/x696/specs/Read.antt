@@ -1,8 +1,8 @@
 -- A message read as a value of a type: the first fault in reading order, or the value, the octets after it and the nodes so far.
 -- `end` is where the octets end: what is left, s, begins at offset end - length s. `limit` is the greatest number of nodes.
 -- A node is counted before any octet of its value is looked at (10). Assumes nothing.
-use mathlib.Core.Bool.{Bool, not}
-use mathlib.Core.List.{List, [], _∷_}
+use mathlib.Core.Bool.{not}
+use mathlib.Core.List.{List, []}
 use Prim.Native.Nat.{ℕ, zero, suc, _-_}
 use lib.ListN.{length, drop, getD}
 use lib.Dec.{ltb, eqb}
@@ -12,7 +12,8 @@ use Rattle.x696.specs.Bits.{readPreamble}
 use Rattle.x696.specs.Variable.{readUnsigned}
 use Rattle.x696.specs.Value.{Val, node, Vals, noValues, value, only, same}
 use Rattle.x696.specs.Leaf.{readLeaf}
-use Rattle.x696.specs.Types.{Ty, leaf, sequence, sequenceOf, choice, Items, noItems, item, itemCount, presenceCount, markCount, missing, alternative}
+use Rattle.x696.specs.Types.{Ty, leaf, sequence, sequenceOf, choice, Items, noItems, item, itemCount}
+use Rattle.x696.specs.Types.{presenceCount, markCount, missing, alternative}
 
 -- where a reading stands: the octets left, and the nodes counted so far
 pub record Message : Type 0 where
@@ -37,7 +38,8 @@ module _ (limit : ℕ) where
   counted end s k = must (ltb (s .count) limit) 10 (offset end (s .octets)) (k (message (s .octets) (suc (s .count))))
 
   -- a component, given the reader of its type: plain; or with its presence bit, then it is missing or differs from what it is if missing
-  unfoldable pub componentBy : (Message → Outcome Message Val) → (mark default : ℕ) → Ty → (bit end : ℕ) → Message → Outcome Message Val
+  unfoldable pub componentBy : (Message → Outcome Message Val) → (mark default : ℕ) → Ty → (bit end : ℕ) → Message
+      → Outcome Message Val
   componentBy f zero d t x end s = f s
   componentBy f (suc m) d t x end s =
       choose (eqb x 0)

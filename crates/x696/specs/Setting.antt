@@ -1,9 +1,8 @@
 -- A single setting, and a shown text (document 01, "Editing and reading by path"): what a component of a value is read as.
 -- ENUMERATED is signed; INTEGER is unsigned or signed by its type; NULL is a group of none, a CHOICE of one; a BIT STRING's size is in
 -- bits. Reals are their IEEE 754 bits. Assumes nothing.
-use mathlib.Core.Bool.{Bool, cond}
-use mathlib.Core.List.{List}
-use Prim.Native.Nat.{ℕ, zero, suc, _+_, _-_}
+use mathlib.Core.Bool.{cond}
+use Prim.Native.Nat.{ℕ, _+_, _-_}
 use lib.ListN.{length}
 use lib.Dec.{eqb}
 use Rattle.x696.specs.Integer.{isUnsigned}

@@ -2,19 +2,20 @@
 -- Assumes nothing.
 use mathlib.Core.Path.{_≡_, refl, ap, sym, _∙_}
 use mathlib.Core.Logic.{_⊎_, inl, inr, ⊎-elim}
-use mathlib.Core.Bool.{Bool, true, false, cond}
-use mathlib.Core.List.{List, [], _∷_}
+use mathlib.Core.Bool.{true}
+use mathlib.Core.List.{List}
 use Prim.Native.Nat.{ℕ, zero, suc, _+_, _*_, _^_, _%_, _-_, _<_, _≤_}
 use native.Mathlib.Nat.{mod-eq-of-lt}
 use native.Mathlib.Omega.{arith}
 use lib.ListN.{length}
-use lib.Dec.{ltb, eqb}
 use lib.Pow.{pow-mono, pow-add, not-mod}
 use borrow.Author.Tests.{lt-ltb, le-ltb, eqb-true, eq-eqb}
-use Rattle.x696.specs.OutcomeLaws.{cases, cases-lt}
+use Rattle.x696.specs.OutcomeLaws.{cases-lt}
 use Rattle.x696.specs.Digits.{digits, fromDigits, Below}
-use Rattle.x696.specs.DigitsLaws.{digits-length, fromDigits-lt, digits-fromDigits, fromDigits-digits-mod, digits-low, mul-step}
-use Rattle.x696.specs.Fewest.{fewest, magnitude, fewestSigned, signedOctets, magnitudeIn, wordIn, isFewestSigned, signedWord}
+use Rattle.x696.specs.DigitsLaws.{digits-length, fromDigits-lt, digits-fromDigits, fromDigits-digits-mod}
+use Rattle.x696.specs.DigitsLaws.{digits-low, mul-step}
+use Rattle.x696.specs.Fewest.{fewest, magnitude, fewestSigned, signedOctets, magnitudeIn, wordIn, isFewestSigned}
+use Rattle.x696.specs.Fewest.{signedWord}
 use Rattle.x696.specs.FewestLaws.{fewest-holds, fewest-pos, fewest-least}
 
 pub octets-le : (k : ℕ) → k ≤ 8 → 2 ^ (8 * k) ≤ 2 ^ 64
@@ -98,7 +99,8 @@ fewestSigned-holds w h l e =
     magnitude-holds h w (omega arith) l (omega arith)
 
 -- no fewer hold it
-pub fewestSigned-least : (w h j : ℕ) → suc j ≤ 8 → w < 2 ^ 64 → 2 * h ≡ 2 ^ (8 * suc j) → HoldsSigned h w → fewestSigned w ≤ suc j
+pub fewestSigned-least : (w h j : ℕ) → suc j ≤ 8 → w < 2 ^ 64 → 2 * h ≡ 2 ^ (8 * suc j) → HoldsSigned h w
+    → fewestSigned w ≤ suc j
 unfolding fewestSigned
 fewestSigned-least w h j l g e m =
     let n = octets-le (suc j) l in

@@ -1,15 +1,15 @@
 -- What the reader gives fits its type, and the octets that it took are that value's.
 -- Assumes nothing.
 use mathlib.Core.Path.{_≡_, refl, ap, sym, _∙_}
-use mathlib.Core.Bool.{Bool, true, false, not, _&&_}
+use mathlib.Core.Bool.{false, _&&_}
 use mathlib.Core.List.{List, [], _∷_, _++_, append-assoc}
 use Prim.Native.Nat.{ℕ, zero, suc, _+_, _<_, _≤_}
 use native.Mathlib.Omega.{arith}
 use lib.ListN.{length, drop, getD, length-append}
-use lib.Dec.{ltb, eqb}
+use lib.Dec.{eqb}
 use borrow.Author.Tests.{ltb-true, not-true, eqb-true}
-use Rattle.x696.specs.Outcome.{Outcome, got, next, must, choose}
-use Rattle.x696.specs.OutcomeLaws.{next-inv, must-inv, choose-inv, refused-never, cases, and-both}
+use Rattle.x696.specs.Outcome.{Outcome, got, choose}
+use Rattle.x696.specs.OutcomeLaws.{next-inv, must-inv, refused-never, cases, and-both}
 use Rattle.x696.specs.Digits.{Below}
 use Rattle.x696.specs.DigitsLaws.{below-split}
 use Rattle.x696.specs.Tag.{Tag, tag, tagOctets}
@@ -21,10 +21,15 @@ use Rattle.x696.specs.VariableLaws.{unsigned-sound}
 use Rattle.x696.specs.Value.{Val, node, Vals, noValues, value, only, size, sizes, valueCount, same}
 use Rattle.x696.specs.ValueLaws.{same-refl}
 use Rattle.x696.specs.LeafLaws.{leaf-sound}
-use Rattle.x696.specs.Types.{Ty, leaf, sequence, sequenceOf, choice, Items, noItems, item, itemCount, presenceCount, markCount, missing, alternative, tagAt}
-use Rattle.x696.specs.Fits.{Fits, leaf-fits, sequence-fits, sequenceOf-fits, choice-fits, FitsComponent, plain, carried, left-out, FitComponents, no-components, component, FitAll, no-elements, element, FitsAlternative, this, later}
-use Rattle.x696.specs.Encode.{bit, presenceBits, presence, carriedOctets, each, encode, encodeComponents, encodeAlternative, ownOctets}
-use Rattle.x696.specs.Read.{Message, message, offset, times, counted, componentBy, readInside, readComponents, readAlternative, read}
+use Rattle.x696.specs.Types.{Ty, leaf, sequence, sequenceOf, choice, Items, noItems, item, itemCount}
+use Rattle.x696.specs.Types.{presenceCount, markCount, missing, alternative, tagAt}
+use Rattle.x696.specs.Fits.{Fits, leaf-fits, sequence-fits, sequenceOf-fits, choice-fits, FitsComponent, plain}
+use Rattle.x696.specs.Fits.{carried, left-out, FitComponents, no-components, component, FitAll, no-elements}
+use Rattle.x696.specs.Fits.{element, FitsAlternative, this, later}
+use Rattle.x696.specs.Encode.{bit, presenceBits, presence, carriedOctets, each, encode, encodeComponents}
+use Rattle.x696.specs.Encode.{encodeAlternative, ownOctets}
+use Rattle.x696.specs.Read.{Message, message, times, counted, componentBy, readInside, readComponents}
+use Rattle.x696.specs.Read.{readAlternative, read}
 use Rattle.x696.specs.Complete.{missing-size, presenceBits-length}
 
 -- what a reading of v says: it fits, its octets were taken, its nodes were counted within the limit
@@ -79,8 +84,10 @@ no-bits (x ∷ bits) e = absurd (omega arith)
 module _ (limit : ℕ) where
   -- ---- one thing n times over
   times-sound : (t : Ty) (f : Message → Outcome Message Val)
-      → ((s : Message) (v : Val) (r : Message) → Below 8 (s .octets) → f s ≡ got v r → ReadAs limit t (s .octets) (s .count) v r)
-      → (n : ℕ) (s : Message) {vs : Vals} {r : Message} → Below 8 (s .octets) → times f n s ≡ got vs r → AllReadAs limit t (s .octets) (s .count) n vs r
+      → ((s : Message) (v : Val) (r : Message) → Below 8 (s .octets) → f s ≡ got v r
+      → ReadAs limit t (s .octets) (s .count) v r)
+      → (n : ℕ) (s : Message) {vs : Vals} {r : Message} → Below 8 (s .octets) → times f n s ≡ got vs r
+      → AllReadAs limit t (s .octets) (s .count) n vs r
   unfolding times each sizes valueCount
   times-sound t f one zero s {vs} {r} b e =
       let q : noValues ≡ vs = cc in
@@ -103,9 +110,12 @@ module _ (limit : ℕ) where
 
   -- ---- one component
   component-sound : (m d : ℕ) (t : Ty) (f : Message → Outcome Message Val)
-      → ((s : Message) (v : Val) (r : Message) → Below 8 (s .octets) → f s ≡ got v r → ReadAs limit t (s .octets) (s .count) v r)
-      → (bits : List ℕ) (end : ℕ) (s : Message) {v : Val} {r : Message} → Below 8 (s .octets) → Below 1 bits → presenceCount m ≤ length bits
-      → componentBy limit f m d t (getD bits 0 0) end s ≡ got v r → ComponentReadAs limit m d t bits (s .octets) (s .count) v r
+      → ((s : Message) (v : Val) (r : Message) → Below 8 (s .octets) → f s ≡ got v r
+      → ReadAs limit t (s .octets) (s .count) v r)
+      → (bits : List ℕ) (end : ℕ) (s : Message) {v : Val} {r : Message} → Below 8 (s .octets) → Below 1 bits
+      → presenceCount m ≤ length bits
+      → componentBy limit f m d t (getD bits 0 0) end s ≡ got v r
+      → ComponentReadAs limit m d t bits (s .octets) (s .count) v r
   unfolding componentBy counted presenceBits presenceCount ownOctets carriedOctets bit choose
   component-sound zero d t f one bits end s {v} {r} b l k e =
       let a = one s v r b e in
@@ -142,7 +152,8 @@ module _ (limit : ℕ) where
   component-sound (suc m) d t f one (suc (suc x) ∷ bits) end s b l k e = absurd (omega (arith, l .0))
 
   mutual
-    unfolding readInside readComponents readAlternative counted encode encodeComponents encodeAlternative ownOctets size itemCount markCount presence tagAt alternative choose
+    unfolding readInside readComponents readAlternative counted encode encodeComponents encodeAlternative ownOctets
+        size itemCount markCount presence tagAt alternative choose
 
     soundInside : (t : Ty) (end c : ℕ) (s : List ℕ) {v : Val} {r : Message} → Below 8 s → suc c ≤ limit
         → readInside limit t end (message s (suc c)) ≡ got v r → ReadAs limit t s c v r
@@ -195,8 +206,10 @@ module _ (limit : ℕ) where
           within = m .within;
         })
 
-    soundComponents : (is : Items) (bits : List ℕ) (end : ℕ) (s : Message) {vs : Vals} {r : Message} → Below 8 (s .octets) → Below 1 bits
-        → length bits ≡ markCount is → readComponents limit is bits end s ≡ got vs r → ComponentsReadAs limit is bits (s .octets) (s .count) vs r
+    soundComponents : (is : Items) (bits : List ℕ) (end : ℕ) (s : Message) {vs : Vals} {r : Message}
+        → Below 8 (s .octets) → Below 1 bits
+        → length bits ≡ markCount is → readComponents limit is bits end s ≡ got vs r
+        → ComponentsReadAs limit is bits (s .octets) (s .count) vs r
     soundComponents noItems bits end s {vs} {r} b l k e =
         let q : noValues ≡ vs = cc in
         let qr : s ≡ r = cc in
@@ -219,7 +232,8 @@ module _ (limit : ℕ) where
           within = λ _. g .within (a .within);
         })
 
-    soundAlternative : (is : Items) (n end : ℕ) (s : Message) {v : Val} {r : Message} → Below 8 (s .octets) → readAlternative limit is n end s ≡ got v r
+    soundAlternative : (is : Items) (n end : ℕ) (s : Message) {v : Val} {r : Message} → Below 8 (s .octets)
+        → readAlternative limit is n end s ≡ got v r
         → AlternativeReadAs limit is n (s .octets) (s .count) v r
     soundAlternative noItems n end s b e = absurd (refused-never e)
     soundAlternative (item a d t is) zero end s {v} {r} b e =
@@ -235,7 +249,8 @@ module _ (limit : ℕ) where
         let m = soundAlternative is n end s b e in
         record { fits = later (m .fits); from = m .from; nodes = m .nodes; within = m .within }
 
-  pub sound : (t : Ty) (end : ℕ) (s : Message) {v : Val} {r : Message} → Below 8 (s .octets) → read limit t end s ≡ got v r
+  pub sound : (t : Ty) (end : ℕ) (s : Message) {v : Val} {r : Message} → Below 8 (s .octets)
+      → read limit t end s ≡ got v r
       → ReadAs limit t (s .octets) (s .count) v r
   unfolding read counted
   sound t end s b e = must-inv _ _ _ _ e λ u w. soundInside t end (s .count) (s .octets) b (ltb-true (s .count) limit u) w

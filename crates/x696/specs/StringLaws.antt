@@ -1,14 +1,14 @@
 -- Strings: what is written is read back, and what is read was written so.
 -- Assumes nothing.
-use mathlib.Core.Path.{_≡_, refl, sym, _∙_}
-use mathlib.Core.Bool.{Bool, true, false, not, _&&_, _||_}
+use mathlib.Core.Path.{_≡_, sym}
+use mathlib.Core.Bool.{Bool, true}
 use mathlib.Core.List.{List, [], _∷_, _++_, append-assoc}
-use Prim.Native.Nat.{ℕ, suc, _+_, _*_, _^_, _%_, _-_, _<_, _≤_}
+use Prim.Native.Nat.{ℕ, suc, _*_, _-_}
 use native.Mathlib.Omega.{arith}
 use lib.ListN.{length}
-use lib.Dec.{ltb, leb, eqb}
+use lib.Dec.{leb}
 use borrow.Author.Tests.{ltb-true, leb-true, eqb-true, lt-ltb, le-leb}
-use Rattle.x696.specs.Outcome.{Outcome, got, next, must, choose}
+use Rattle.x696.specs.Outcome.{got, next, must, choose}
 use Rattle.x696.specs.OutcomeLaws.{next-inv, must-inv, choose-inv, cases, and-both}
 use Rattle.x696.specs.Digits.{Below}
 use Rattle.x696.specs.DigitsLaws.{below-split}
@@ -17,7 +17,8 @@ use Rattle.x696.specs.LengthLaws.{run-complete, run-sound, readRun-compl
 use Rattle.x696.specs.Bits.{bitOctets, unusedBits, lowBitsClear}
 use Rattle.x696.specs.Integer.{hasUpper}
 use Rattle.x696.specs.Value.{Val, node, noValues}
-use Rattle.x696.specs.String.{fixedSize, sizeAllowed, textOctets, readText, bitStringOctets, readFixedBits, bitsIn, readBitString}
+use Rattle.x696.specs.String.{fixedSize, sizeAllowed, textOctets, readText, bitStringOctets, readFixedBits}
+use Rattle.x696.specs.String.{bitsIn, readBitString}
 
 -- of a fixed size only the least size is allowed
 fixed-size : (f a b n : ℕ) → fixedSize f a b ≡ true → sizeAllowed f a b n ≡ true → n ≡ a
@@ -34,7 +35,8 @@ fixed-allowed f a b e =
     let (e₁, e₂) = and-both (hasUpper f) _ e in
     rw (e₁, le-leb a a (omega arith), le-leb a b (omega (arith, eqb-true a b e₂)))
 
-pub text-complete : (g : List ℕ → Bool) (kind f a b : ℕ) (os : List ℕ) (p : ℕ) (r : List ℕ) → sizeAllowed f a b (length os) ≡ true
+pub text-complete : (g : List ℕ → Bool) (kind f a b : ℕ) (os : List ℕ) (p : ℕ) (r : List ℕ)
+    → sizeAllowed f a b (length os) ≡ true
     → g os ≡ true → readText g kind f a b p (textOctets f a b os ++ r) ≡ got (node kind (length os) os noValues) r
 unfolding readText textOctets next must choose
 text-complete g kind f a b os p r h t =
@@ -44,7 +46,8 @@ text-complete g kind f a b os p r h t =
 
 pub text-sound : (g : List ℕ → Bool) (kind f a b p : ℕ) (s : List ℕ) {v : Val} {r : List ℕ} {X : Type 0} → Below 8 s
     → readText g kind f a b p s ≡ got v r
-    → ((os : List ℕ) → Below 8 os → sizeAllowed f a b (length os) ≡ true → g os ≡ true → v ≡ node kind (length os) os noValues
+    → ((os : List ℕ) → Below 8 os → sizeAllowed f a b (length os) ≡ true → g os ≡ true
+    → v ≡ node kind (length os) os noValues
     → s ≡ textOctets f a b os ++ r → X) → X
 unfolding readText textOctets choose
 text-sound g kind f a b p s {v} {r} bs e k =
@@ -59,7 +62,8 @@ text-sound g kind f a b p s {v} {r} bs e k =
     k os (m .1) h t (cc) (rw (u, ← qr, append-assoc (lengthOctets (length os)) os r₁) (m .0)))
 
 -- the octets that a determinant of a BIT STRING counts
-bitsIn-complete : (f a b n : ℕ) (os : List ℕ) (p : ℕ) (r : List ℕ) → length os ≡ bitOctets n → lowBitsClear (unusedBits n) os ≡ true
+bitsIn-complete : (f a b n : ℕ) (os : List ℕ) (p : ℕ) (r : List ℕ) → length os ≡ bitOctets n
+    → lowBitsClear (unusedBits n) os ≡ true
     → sizeAllowed f a b n ≡ true → bitsIn f a b p (unusedBits n ∷ os) r ≡ got (node 8 n os noValues) r
 unfolding bitsIn must
 bitsIn-complete f a b n os p r l z h =
@@ -105,7 +109,8 @@ bitsIn-sound f a b p (u ∷ os) r e k =
     let unused : unusedBits (8 * length os - u) ≡ u = omega arith in
     k (8 * length os - u) os (rw unused) l (rw unused t₃) t₄ (cc) (cc)
 
-pub bitString-sound : (f a b p : ℕ) (s : List ℕ) {v : Val} {r : List ℕ} {X : Type 0} → Below 8 s → readBitString f a b p s ≡ got v r
+pub bitString-sound : (f a b p : ℕ) (s : List ℕ) {v : Val} {r : List ℕ} {X : Type 0} → Below 8 s
+    → readBitString f a b p s ≡ got v r
     → ((n : ℕ) (os : List ℕ) → Below 8 os → length os ≡ bitOctets n → lowBitsClear (unusedBits n) os ≡ true
     → sizeAllowed f a b n ≡ true → v ≡ node 8 n os noValues → s ≡ bitStringOctets f a b n os ++ r → X) → X
 unfolding readBitString bitStringOctets readFixedBits choose

@@ -2,8 +2,8 @@
 -- Widths and positions of words stand here alone. A word past the end of its list is 0, so every definition is total.
 -- An item names only a smaller row; `typeOf` follows no other, and gives NULL in its place. Assumes nothing.
 use mathlib.Core.List.{List, [], _∷_}
-use Prim.Native.Nat.{ℕ, zero, suc, _+_, _*_, _/_, _%_}
-use lib.ListN.{length, getD}
+use Prim.Native.Nat.{ℕ, zero, suc, _+_, _*_}
+use lib.ListN.{getD}
 use lib.Dec.{eqb}
 use Rattle.x696.specs.Outcome.{choose}
 use Rattle.x696.specs.Real.{binary32, binary64}
@@ -47,17 +47,18 @@ unfoldable pub numbersFrom : (items : List ℕ) → (first n : ℕ) → List ℕ
 numbersFrom items first zero = []
 numbersFrom items first (suc n) = itemWord items first 0 ∷ numbersFrom items (suc first) n
 
--- the components of n items; f gives the type of a row
-unfoldable pub componentsFrom : (ℕ → Ty) → (items : List ℕ) → (first n : ℕ) → Items
-componentsFrom f items first zero = noItems
-componentsFrom f items first (suc n) =
-    item (itemWord items first 1) (itemWord items first 2) (f (itemWord items first 0)) (componentsFrom f items (suc first) n)
+-- n items from the first on: words a and b of each, and the type that f gives of the row in word k
+unfoldable pub itemsFrom : (a b k : ℕ) → (ℕ → Ty) → (items : List ℕ) → (first n : ℕ) → Items
+itemsFrom a b k f items first zero = noItems
+itemsFrom a b k f items first (suc n) =
+    item (itemWord items first a) (itemWord items first b) (f (itemWord items first k)) (itemsFrom a b k f items (suc first) n)
 
--- the alternatives of n items
-unfoldable pub alternativesFrom : (ℕ → Ty) → (items : List ℕ) → (first n : ℕ) → Items
-alternativesFrom f items first zero = noItems
-alternativesFrom f items first (suc n) =
-    item (itemWord items first 0) (itemWord items first 1) (f (itemWord items first 2)) (alternativesFrom f items (suc first) n)
+-- (row, mark, default) and (class, number, row)
+abbrev pub componentsFrom : (ℕ → Ty) → (items : List ℕ) → (first n : ℕ) → Items
+componentsFrom f items first n = itemsFrom 1 2 0 f items first n
+
+abbrev pub alternativesFrom : (ℕ → Ty) → (items : List ℕ) → (first n : ℕ) → Items
+alternativesFrom f items first n = itemsFrom 0 1 2 f items first n
 
 -- the type of a row by its kind; f gives the types of the rows that its items name
 unfoldable pub typeBy : (ℕ → Ty) → (rows items : List ℕ) → (row : ℕ) → Ty

@@ -2,16 +2,16 @@
 -- Each row's nesting is worked out once, from those of the smaller rows. `given` tests in order and stops at the first failure, so a
 -- row's items are looked at only after its range. READINGS of these rules: docs/DECISIONS.md, 1 to 8. Assumes nothing.
 use mathlib.Core.Bool.{Bool, true, false, cond, not, _&&_, _||_}
-use mathlib.Core.List.{List, [], _∷_, _++_}
-use Prim.Native.Nat.{ℕ, zero, suc, _+_, _*_, _^_, _/_, _%_, _-_, max}
-use lib.ListN.{length, getD}
+use mathlib.Core.List.{List}
+use Prim.Native.Nat.{ℕ, zero, suc, _+_, _/_, max}
+use lib.ListN.{length}
 use lib.Dec.{ltb, leb, eqb}
 use Rattle.x696.specs.Outcome.{choose}
 use Rattle.x696.specs.Integer.{rank, hasLower, hasUpper, isUnsigned, allowed}
 use Rattle.x696.specs.Enumerated.{listed}
-use Rattle.x696.specs.Leaf.{Leaf, boolean, null, integer, enumerated, real, octetString, bitString, visibleString}
+use Rattle.x696.specs.Leaf.{boolean, null, integer, enumerated, real, octetString, bitString, visibleString}
 use Rattle.x696.specs.Types.{Ty, leaf, sequence, sequenceOf, choice}
-use Rattle.x696.specs.Table.{rowWidth, rowKind, rowFlags, rowA, rowB, rowFirst, rowCount, itemWidth, itemWord, typeOf}
+use Rattle.x696.specs.Table.{rowFlags, rowA, rowB, rowFirst, rowCount, itemWidth, itemWord, typeOf}
 
 -- a test, and only if it holds the next ones
 unfoldable pub given : Bool → (Unit {0} → Bool) → Bool
@@ -44,6 +44,12 @@ defaultSound (leaf (visibleString f a b)) d = false
 defaultSound (sequence is) d = false
 defaultSound (sequenceOf t) d = eqb d 0
 defaultSound (choice is) d = false
+
+-- the order of tags: by class, then number
+unfoldable pub tagBefore : (items : List ℕ) → (i j : ℕ) → Bool
+tagBefore items i j =
+    ltb (itemWord items i 0) (itemWord items j 0)
+    || (eqb (itemWord items i 0) (itemWord items j 0) && ltb (itemWord items i 1) (itemWord items j 1))
 
 module _ (rows items : List ℕ) where
   -- the words that a kind does not name are 0
@@ -114,15 +120,10 @@ module _ (rows items : List ℕ) where
   alternativeSound r i =
       given (ltb (itemWord items i 0) 4) λ _. given (leb (itemWord items i 1) 2097151) λ _. ltb (itemWord items i 2) r
 
-  unfoldable pub tagBefore : (i j : ℕ) → Bool
-  tagBefore i j =
-      ltb (itemWord items i 0) (itemWord items j 0)
-      || (eqb (itemWord items i 0) (itemWord items j 0) && ltb (itemWord items i 1) (itemWord items j 1))
-
   unfoldable pub choiceSound : (row : ℕ) → Bool
   choiceSound r =
       given (noBounds r) λ _.
       given (ltb 0 (rowCount rows r)) λ _.
       given (rangeInside r) λ _.
       given (every (λ i. alternativeSound r i) (rowFirst rows r) (rowCount rows r)) λ _.
-      ascending (λ i j. tagBefore i j) (rowFirst rows r) (rowCount rows r)
+      ascending (λ i j. tagBefore items i j) (rowFirst rows r) (rowCount rows r)

@@ -1,14 +1,15 @@
 -- TABLE SIZE and TABLE ROW: what a table's check comes to (document 01, numbers 1 and 2).
 -- Both lists are measured before any row is looked at; the whole table is judged, also rows that the asked one does not reach.
 -- Assumes nothing.
-use mathlib.Core.Bool.{Bool, true, false, _&&_, _||_}
+use mathlib.Core.Bool.{Bool, _&&_, _||_}
 use mathlib.Core.List.{List, [], _∷_, _++_}
-use Prim.Native.Nat.{ℕ, zero, suc, _*_, _/_, _%_}
+use Prim.Native.Nat.{ℕ, zero, suc, _/_, _%_}
 use lib.ListN.{length, getD}
 use lib.Dec.{ltb, leb, eqb}
 use Rattle.x696.specs.Outcome.{choose}
 use Rattle.x696.specs.Table.{rowWidth, rowKind, rowFirst, rowCount, itemWidth, itemWord}
-use Rattle.x696.specs.TableCheck.{given, greatest, noBounds, noRange, integerSound, enumeratedSound, stringSound, sequenceSound, sequenceOfSound, choiceSound}
+use Rattle.x696.specs.TableCheck.{given, greatest, noBounds, noRange, integerSound, enumeratedSound, stringSound}
+use Rattle.x696.specs.TableCheck.{sequenceSound, sequenceOfSound, choiceSound}
 
 pub data TableFault : Type 0 where
   sound : TableFault

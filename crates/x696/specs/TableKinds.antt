@@ -10,31 +10,22 @@ use borrow.Author.Tests.{ne-eqb}
 use Rattle.x696.specs.Outcome.{choose}
 use Rattle.x696.specs.Leaf.{Leaf, null}
 use Rattle.x696.specs.Types.{Ty, leaf, sequence, sequenceOf, choice}
-use Rattle.x696.specs.Table.{rowKind, rowFirst, rowCount, itemWord}
+use Rattle.x696.specs.Table.{rowKind, rowFirst, rowCount, itemWord, itemsFrom}
 use Rattle.x696.specs.Table.{componentsFrom, alternativesFrom, typeBy, typeOf}
 use Rattle.x696.specs.TableFault.{rowSound}
 use Rattle.x696.specs.TableTests.{Each, each-first, each-later}
 use Rattle.x696.specs.TableLaws.{typeOf-row, typeAmong-below}
 use Rattle.x696.specs.TableRows.{sequence-row, sequenceOf-row, choice-row}
 
--- where two functions agree on the rows that the items name, the items are the same
-module _ (items : List ℕ) (f g : ℕ → Ty) where
-  abbrev SameType : (j i : ℕ) → Type 0
-  SameType j i = f (itemWord items i j) ≡ g (itemWord items i j)
+-- where two functions agree on the rows that the items name in word k, the items are the same
+module _ (a b k : ℕ) (items : List ℕ) (f g : ℕ → Ty) where
+  abbrev SameType : (i : ℕ) → Type 0
+  SameType i = f (itemWord items i k) ≡ g (itemWord items i k)
 
-  components-same : (first n : ℕ) → Each (SameType 0) first n
-      → componentsFrom f items first n ≡ componentsFrom g items first n
-  unfolding componentsFrom
-  components-same first zero h = refl
-  components-same first (suc n) h =
-      rw (each-first (SameType 0) first n h, components-same (suc first) n (each-later (SameType 0) first n h))
-
-  alternatives-same : (first n : ℕ) → Each (SameType 2) first n
-      → alternativesFrom f items first n ≡ alternativesFrom g items first n
-  unfolding alternativesFrom
-  alternatives-same first zero h = refl
-  alternatives-same first (suc n) h =
-      rw (each-first (SameType 2) first n h, alternatives-same (suc first) n (each-later (SameType 2) first n h))
+  items-same : (first n : ℕ) → Each SameType first n → itemsFrom a b k f items first n ≡ itemsFrom a b k g items first n
+  unfolding itemsFrom
+  items-same first zero h = refl
+  items-same first (suc n) h = rw (each-first SameType first n h, items-same (suc first) n (each-later SameType first n h))
 
 abbrev pub IsLeaf : Ty → Type 0
 IsLeaf t = (l : Leaf) × (t ≡ leaf l)
@@ -71,7 +62,7 @@ module _ (rows items : List ℕ) (r : ℕ) where
     sequence-type k =
         let row = sequence-row rows items r e k in
         rw (typeOf-row rows items r, k)
-        (ap sequence (components-same _ _ _ _ _ λ i h. typeAmong-below rows items r _ (row .component i h .lower)))
+        (ap sequence (items-same _ _ _ _ _ _ _ _ λ i h. typeAmong-below rows items r _ (row .component i h .lower)))
 
     pub sequenceOf-type : rowKind rows r ≡ 11 → typeOf rows items r
         ≡ sequenceOf (typeOf rows items (itemWord items (rowFirst rows r) 0))
@@ -86,4 +77,4 @@ module _ (rows items : List ℕ) (r : ℕ) where
     choice-type k =
         let row = choice-row rows items r e k in
         rw (typeOf-row rows items r, k)
-        (ap choice (alternatives-same _ _ _ _ _ λ i h. typeAmong-below rows items r _ (row .alternative i h .lower)))
+        (ap choice (items-same _ _ _ _ _ _ _ _ λ i h. typeAmong-below rows items r _ (row .alternative i h .lower)))

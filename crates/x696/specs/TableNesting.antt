@@ -13,7 +13,7 @@ use lib.Seq.{getD-at}
 use Rattle.x696.specs.Outcome.{choose}
 use Rattle.x696.specs.OutcomeLaws.{cases-lt}
 use Rattle.x696.specs.Types.{Ty, nesting, nestings}
-use Rattle.x696.specs.Table.{rowWidth, itemWord, componentsFrom, alternativesFrom, typeOf}
+use Rattle.x696.specs.Table.{rowWidth, itemWord, typeOf, itemsFrom}
 use Rattle.x696.specs.TableCheck.{greatest}
 use Rattle.x696.specs.TableFault.{sound, rowSound, rowNesting, tableFault}
 use Rattle.x696.specs.TableTests.{Each, each-first, each-later}
@@ -22,23 +22,15 @@ use Rattle.x696.specs.TableRows.{kind-cases, sequence-row, sequenceOf-ro
 use Rattle.x696.specs.TableKinds.{no-group, leaf-type, sequence-type, sequenceOf-type, choice-type}
 
 -- where g gives the nestings of the types that f gives, the greatest among the items is that of the items' types
-module _ (items : List ℕ) (f : ℕ → Ty) (g : ℕ → ℕ) where
-  abbrev Right : (j i : ℕ) → Type 0
-  Right j i = g (itemWord items i j) ≡ nesting (f (itemWord items i j))
+module _ (a b k : ℕ) (items : List ℕ) (f : ℕ → Ty) (g : ℕ → ℕ) where
+  abbrev Right : (i : ℕ) → Type 0
+  Right i = g (itemWord items i k) ≡ nesting (f (itemWord items i k))
 
-  components-nesting : (first n : ℕ) → Each (Right 0) first n
-      → greatest (λ i. g (itemWord items i 0)) first n ≡ nestings (componentsFrom f items first n)
-  unfolding greatest nesting componentsFrom
-  components-nesting first zero h = refl
-  components-nesting first (suc n) h =
-      rw (each-first (Right 0) first n h, components-nesting (suc first) n (each-later (Right 0) first n h))
-
-  alternatives-nesting : (first n : ℕ) → Each (Right 2) first n
-      → greatest (λ i. g (itemWord items i 2)) first n ≡ nestings (alternativesFrom f items first n)
-  unfolding greatest nesting alternativesFrom
-  alternatives-nesting first zero h = refl
-  alternatives-nesting first (suc n) h =
-      rw (each-first (Right 2) first n h, alternatives-nesting (suc first) n (each-later (Right 2) first n h))
+  items-nesting : (first n : ℕ) → Each Right first n
+      → greatest (λ i. g (itemWord items i k)) first n ≡ nestings (itemsFrom a b k f items first n)
+  unfolding greatest nesting itemsFrom
+  items-nesting first zero h = refl
+  items-nesting first (suc n) h = rw (each-first Right first n h, items-nesting (suc first) n (each-later Right first n h))
 
 module _ (rows items : List ℕ) where
   abbrev worked : (row : ℕ) → ℕ
@@ -73,14 +65,14 @@ module _ (rows items : List ℕ) where
         (λ k.
         let row = sequence-row rows items r e k in
         rw (sequence-type rows items r e k, k)
-        (ap suc (components-nesting items types (nestingAt r) _ _ λ i h. smaller _ (row .component i h .lower))))
+        (ap suc (items-nesting 1 2 0 items types (nestingAt r) _ _ λ i h. smaller _ (row .component i h .lower))))
         (λ k.
         let row = sequenceOf-row rows items r e k in
         rw (sequenceOf-type rows items r e k, k, row .one, max-zero) (ap suc (smaller _ (row .lower))))
         (λ k.
         let row = choice-row rows items r e k in
         rw (choice-type rows items r e k, k)
-        (ap suc (alternatives-nesting items types (nestingAt r) _ _ λ i h. smaller _ (row .alternative i h .lower))))
+        (ap suc (items-nesting 0 1 2 items types (nestingAt r) _ _ λ i h. smaller _ (row .alternative i h .lower))))
 
   pub nesting-is : tableFault rows items ≡ sound → (r : ℕ) → r < length rows / rowWidth
       → worked r ≡ nesting (typeOf rows items r)

@@ -81,7 +81,7 @@ module _ (rows items : List ℕ) (r : ℕ) where
     pub range : InRange
     pub alternative : Each Alternative (rowFirst rows r) (rowCount rows r)
     pub ascends : (i j : ℕ) → i < j → j < rowCount rows r
-        → Before rows items (rowFirst rows r + i) (rowFirst rows r + j)
+        → Before items (rowFirst rows r + i) (rowFirst rows r + j)
 
   kind-at : (k : ℕ) → ltb 0 k && leb k 12 ≡ true → eqb (rowKind rows r) k ≡ true → KnownKind
   kind-at k h t =
@@ -210,5 +210,5 @@ module _ (rows items : List ℕ) (r : ℕ) where
           notEmpty = ltb-true 0 _ notEmpty;
           range = leb-true _ _ range;
           alternative = λ i h. alternative-sound _ (every-at _ _ _ each i h);
-          ascends = ascending-between _ (before-trans rows items) _ _ ascends;
+          ascends = ascending-between _ (before-trans items) _ _ ascends;
         }

@@ -14,19 +14,19 @@ use Rattle.x696.specs.OutcomeLaws.{and-both, or-either}
 use Rattle.x696.specs.Tag.{tag}
 use Rattle.x696.specs.Types.{Ty, itemCount, alternative, tagAt}
 use Rattle.x696.specs.WellFormed.{TagsDiffer}
-use Rattle.x696.specs.Table.{itemWord, alternativesFrom}
+use Rattle.x696.specs.Table.{itemWord, alternativesFrom, itemsFrom}
 use Rattle.x696.specs.TableCheck.{tagBefore}
 use Rattle.x696.specs.TableTests.{Each, each-first, each-later}
 
 module _ (items : List ℕ) (f : ℕ → Ty) where
   pub alternatives-count : (first n : ℕ) → itemCount (alternativesFrom f items first n) ≡ n
-  unfolding itemCount alternativesFrom
+  unfolding itemCount itemsFrom
   alternatives-count first zero = refl
   alternatives-count first (suc n) = rw (alternatives-count (suc first) n)
 
   pub alternatives-tag : (first n i : ℕ) → i < n
       → tagAt (alternativesFrom f items first n) i ≡ tag (itemWord items (first + i) 0) (itemWord items (first + i) 1)
-  unfolding tagAt alternativesFrom
+  unfolding tagAt itemsFrom
   alternatives-tag first zero i h = absurd (not-suc-le-zero h)
   alternatives-tag first (suc n) zero h = rw (add-zero first)
   alternatives-tag first (suc n) (suc i) h =
@@ -41,7 +41,7 @@ module _ (items : List ℕ) (f : ℕ → Ty) where
     pub alternative-at : (first n i : ℕ) → i < n → Each Other first i
         → eqb c (itemWord items (first + i) 0) && eqb m (itemWord items (first + i) 1) ≡ true
         → alternative (alternativesFrom f items first n) (tag c m) ≡ i
-    unfolding alternative choose alternativesFrom
+    unfolding alternative choose itemsFrom
     alternative-at first zero i h others own = absurd (not-suc-le-zero h)
     alternative-at first (suc n) zero h others own = rw (rw (add-zero first) at own)
     alternative-at first (suc n) (suc i) h others own =
@@ -49,7 +49,7 @@ module _ (items : List ℕ) (f : ℕ → Ty) where
         rw (each-first Other first i others)
         (ap suc (alternative-at (suc first) n i (omega arith) (each-later Other first i others) (rw e own)))
 
-module _ (rows items : List ℕ) where
+module _ (items : List ℕ) where
   abbrev classOf : (i : ℕ) → ℕ
   classOf i = itemWord items i 0
 
@@ -57,7 +57,7 @@ module _ (rows items : List ℕ) where
   numberOf i = itemWord items i 1
 
   abbrev pub Before : (i j : ℕ) → Type 0
-  Before i j = tagBefore rows items i j ≡ true
+  Before i j = tagBefore items i j ≡ true
 
   module _ (i j : ℕ) where
     by-class : classOf i < classOf j → Before i j

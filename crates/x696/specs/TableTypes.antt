@@ -17,7 +17,7 @@ use Rattle.x696.specs.Leaf.{boolean-fits, integer-fits, enumerated-fits}
 use Rattle.x696.specs.Types.{Ty, leaf, sequence, sequenceOf, choice, kindOf, missing}
 use Rattle.x696.specs.Fits.{Fits, leaf-fits, sequenceOf-fits, no-elements}
 use Rattle.x696.specs.WellFormed.{DefaultFits, WellFormed, WellFormedComponents, WellFormedAlternatives}
-use Rattle.x696.specs.Table.{rowWidth, itemWord, componentsFrom, alternativesFrom, typeOf}
+use Rattle.x696.specs.Table.{rowWidth, itemWord, componentsFrom, alternativesFrom, typeOf, itemsFrom}
 use Rattle.x696.specs.TableCheck.{defaultSound}
 use Rattle.x696.specs.TableFault.{sound, rowSound, tableFault}
 use Rattle.x696.specs.TableTests.{Each, each-first, each-later}
@@ -70,7 +70,7 @@ module _ (rows items : List ℕ) where
     module _ (r : ℕ) (smaller : (k : ℕ) → k < r → Formed k) where
       components-formed : (first n : ℕ) → Each (Component rows items r) first n
           → WellFormedComponents (componentsFrom (λ k. typeOf rows items k) items first n)
-      unfolding componentsFrom
+      unfolding itemsFrom
       components-formed first zero h = tt
       components-formed first (suc n) h =
           let c = each-first (Component rows items r) first n h in
@@ -79,7 +79,7 @@ module _ (rows items : List ℕ) where
 
       alternatives-formed : (first n : ℕ) → Each (Alternative rows items r) first n
           → WellFormedAlternatives (alternativesFrom (λ k. typeOf rows items k) items first n)
-      unfolding alternativesFrom
+      unfolding itemsFrom
       alternatives-formed first zero h = tt
       alternatives-formed first (suc n) h =
           let a = each-first (Alternative rows items r) first n h in
@@ -95,7 +95,7 @@ module _ (rows items : List ℕ) where
           (λ k.
           let row = choice-row rows items r e k in
           rw (choice-type rows items r e k)
-          (alternatives-formed _ _ (row .alternative), tags-differ rows items _ _ _ (row .ascends)))
+          (alternatives-formed _ _ (row .alternative), tags-differ items _ _ _ (row .ascends)))
 
     pub well-formed : tableFault rows items ≡ sound → (r : ℕ) → r < length rows / rowWidth → Formed r
     well-formed e r =

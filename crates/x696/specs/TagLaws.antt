@@ -1,14 +1,12 @@
 -- Tags: what is written is read back, and what is read was written so.
 -- Assumes nothing.
-use mathlib.Core.Path.{_≡_, refl, sym, _∙_}
-use mathlib.Core.Bool.{Bool, true}
+use mathlib.Core.Path.{_≡_, refl, sym}
 use mathlib.Core.List.{List, [], _∷_, _++_}
-use Prim.Native.Nat.{ℕ, _+_, _*_, _/_, _%_, _-_, _<_, _≤_}
+use Prim.Native.Nat.{ℕ, _+_, _*_, _/_, _%_, _-_, _≤_}
 use native.Mathlib.Omega.{arith}
 use lib.ListN.{length}
-use lib.Dec.{ltb, leb, eqb}
 use borrow.Author.Tests.{ltb-true, ltb-false, leb-true, lt-ltb, le-ltb, le-leb, eq-eqb}
-use Rattle.x696.specs.Outcome.{Outcome, got, next, must, choose}
+use Rattle.x696.specs.Outcome.{got, next, must, choose}
 use Rattle.x696.specs.OutcomeLaws.{next-inv, must-inv, choose-inv, refused-never, cases-lt}
 use Rattle.x696.specs.Digits.{digits, fromDigits, Below}
 use Rattle.x696.specs.DigitsLaws.{digits-length, digits-below, fromDigits-digits, digits-fromDigits}

@@ -1,9 +1,9 @@
 -- Types as trees. An item is (mark, default, type) in a SEQUENCE and (class, number, type) in a CHOICE, as in the type table.
 -- A SET is written as a SEQUENCE, its components already in the order of clause 18.2.
 -- Assumes nothing.
-use mathlib.Core.Bool.{Bool, _&&_}
-use mathlib.Core.List.{List, []}
-use Prim.Native.Nat.{ℕ, zero, suc, _+_, _≤_, max}
+use mathlib.Core.Bool.{_&&_}
+use mathlib.Core.List.{[]}
+use Prim.Native.Nat.{ℕ, zero, suc, _+_, max}
 use lib.Dec.{eqb}
 use Rattle.x696.specs.Outcome.{choose}
 use Rattle.x696.specs.Tag.{Tag, tag}

@@ -4,12 +4,11 @@
 use mathlib.Core.Path.{_≡_, refl, ap, sym, _∙_}
 use mathlib.Core.Logic.{_↔_}
 use mathlib.Core.List.{List, [], _∷_, _++_, append-nil}
-use Prim.Native.Nat.{ℕ, zero, suc, _+_, _≤_}
+use Prim.Native.Nat.{ℕ, _+_, _≤_}
 use native.Mathlib.Omega.{arith}
 use lib.ListN.{length}
-use lib.Dec.{leb, eqb}
 use borrow.Author.Tests.{leb-true, le-leb, eqb-true}
-use Rattle.x696.specs.Outcome.{Outcome, got, next, must}
+use Rattle.x696.specs.Outcome.{got, next, must}
 use Rattle.x696.specs.OutcomeLaws.{next-inv, must-inv}
 use Rattle.x696.specs.Digits.{Below}
 use Rattle.x696.specs.Value.{Val, size}
@@ -18,11 +17,12 @@ use Rattle.x696.specs.Fits.{Fits}
 use Rattle.x696.specs.Encode.{encode}
 use Rattle.x696.specs.Read.{Message, message, read}
 use Rattle.x696.specs.Complete.{complete}
-use Rattle.x696.specs.Sound.{ReadAs, sound}
+use Rattle.x696.specs.Sound.{sound}
 use Rattle.x696.specs.Operations.{nodeLimit, octetLimit, readMessage}
 
 -- two values whose octets, with something after each, are the same list: they are one value, with the same after it
-pub encode-prefix-free : {t : Ty} {v w : Val} → Fits t v → Fits t w → (r q : List ℕ) → encode t v ++ r ≡ encode t w ++ q → (v ≡ w) × (r ≡ q)
+pub encode-prefix-free : {t : Ty} {v w : Val} → Fits t v → Fits t w → (r q : List ℕ)
+    → encode t v ++ r ≡ encode t w ++ q → (v ≡ w) × (r ≡ q)
 encode-prefix-free {t} {v} {w} f g r q e =
     let limit = size v + size w in
     let a = complete limit f 0 0 (size v) r (omega arith) (omega arith) in
@@ -33,7 +33,8 @@ encode-prefix-free {t} {v} {w} f g r q e =
 pub encode-unique : {t : Ty} {v w : Val} → Fits t v → Fits t w → encode t v ≡ encode t w → v ≡ w
 encode-unique f g e = encode-prefix-free f g [] [] (rw e) .0
 
-read-from : (limit : ℕ) {t : Ty} {v : Val} → Fits t v → (end : ℕ) (s : List ℕ) (c : ℕ) (r : Message) → s ≡ encode t v ++ r .octets
+read-from : (limit : ℕ) {t : Ty} {v : Val} → Fits t v → (end : ℕ) (s : List ℕ) (c : ℕ) (r : Message)
+    → s ≡ encode t v ++ r .octets
     → r .count ≡ c + size v → r .count ≤ limit → read limit t end (message s c) ≡ got v r
 read-from limit f end s c r e n h = rw e (complete limit f end c (r .count) (r .octets) n h)
 
@@ -61,7 +62,8 @@ record MessageOf (t : Ty) (s : List ℕ) (v : Val) (r : Message) : Type 0 where
   short : length s ≤ octetLimit
   rest : r ≡ message [] (size v)
 
-readMessage-sound : (t : Ty) (s : List ℕ) {v : Val} {r : Message} → Below 8 s → readMessage t s ≡ got v r → MessageOf t s v r
+readMessage-sound : (t : Ty) (s : List ℕ) {v : Val} {r : Message} → Below 8 s → readMessage t s ≡ got v r
+    → MessageOf t s v r
 unfolding readMessage
 readMessage-sound t s {v} {r} b e =
     must-inv _ _ _ _ e λ short q.
@@ -79,7 +81,8 @@ readMessage-sound t s {v} {r} b e =
       rest = at-end r₁ none (omega (arith, a .nodes));
     })
 
-readMessage-complete : {t : Ty} {v : Val} → Fits t v → (s : List ℕ) → s ≡ encode t v → size v ≤ nodeLimit → length s ≤ octetLimit
+readMessage-complete : {t : Ty} {v : Val} → Fits t v → (s : List ℕ) → s ≡ encode t v → size v ≤ nodeLimit
+    → length s ≤ octetLimit
     → readMessage t s ≡ got v (message [] (size v))
 unfolding readMessage next must
 readMessage-complete {t} {v} f s e few short =

@@ -7,7 +7,8 @@ use lib.ListN.{length}
 use lib.Dec.{leb}
 use Rattle.x696.specs.Outcome.{Outcome, got, next, must}
 use Rattle.x696.specs.Digits.{fromDigits}
-use Rattle.x696.specs.Fewest.{fewest, unsignedOctets, isFewest, fewestSigned, signedOctets, isFewestSigned, signedWord}
+use Rattle.x696.specs.Fewest.{fewest, unsignedOctets, isFewest, fewestSigned, signedOctets, isFewestSigned}
+use Rattle.x696.specs.Fewest.{signedWord}
 use Rattle.x696.specs.Length.{lengthOctets, readRun}
 
 unfoldable pub variableUnsigned : ℕ → List ℕ

@@ -1,20 +1,20 @@
 -- Variable-size numbers and quantities: what is written is read back, and what is read was written so.
 -- Assumes nothing.
-use mathlib.Core.Path.{_≡_, refl, sym, _∙_}
-use mathlib.Core.List.{List, [], _∷_, _++_, append-assoc}
+use mathlib.Core.Path.{_≡_, refl}
+use mathlib.Core.List.{List, _++_, append-assoc}
 use Prim.Native.Nat.{ℕ, _*_, _^_, _<_, _≤_}
 use native.Mathlib.Omega.{arith}
 use lib.ListN.{length}
-use lib.Dec.{leb}
 use borrow.Author.Tests.{leb-true, le-leb}
-use Rattle.x696.specs.Outcome.{Outcome, got, next, must}
+use Rattle.x696.specs.Outcome.{got, next, must}
 use Rattle.x696.specs.OutcomeLaws.{next-inv, must-inv}
 use Rattle.x696.specs.Digits.{fromDigits, Below}
 use Rattle.x696.specs.DigitsLaws.{fromDigits-lt}
-use Rattle.x696.specs.Fewest.{fewest, unsignedOctets, isFewest, fewestSigned, signedOctets, isFewestSigned, signedWord}
-use Rattle.x696.specs.FewestLaws.{fewest-least, unsigned-back, unsigned-length, unsigned-fewest, unsigned-only, isFewest-length}
+use Rattle.x696.specs.Fewest.{fewest, unsignedOctets, fewestSigned, signedOctets, signedWord}
+use Rattle.x696.specs.FewestLaws.{fewest-least, unsigned-back, unsigned-length, unsigned-fewest, unsigned-only}
+use Rattle.x696.specs.FewestLaws.{isFewest-length}
 use Rattle.x696.specs.SignedLaws.{octets-le, fewestSigned-le, signed-length, signed-back, signed-only}
-use Rattle.x696.specs.Length.{lengthOctets, readRun}
+use Rattle.x696.specs.Length.{lengthOctets}
 use Rattle.x696.specs.LengthLaws.{readRun-complete, readRun-sound}
 use Rattle.x696.specs.Variable.{variableUnsigned, readUnsigned, variableSigned, readSigned}
 

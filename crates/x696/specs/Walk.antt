@@ -13,7 +13,8 @@ use Rattle.x696.specs.Enumerated.{listed}
 use Rattle.x696.specs.Real.{realOctets, realAllowed}
 use Rattle.x696.specs.String.{sizeAllowed, visible}
 use Rattle.x696.specs.Value.{Val, node, Vals, noValues, value, only, absent}
-use Rattle.x696.specs.Leaf.{Leaf, boolean, null, integer, enumerated, real, octetString, bitString, visibleString, leafKind, realKind}
+use Rattle.x696.specs.Leaf.{Leaf, boolean, null, integer, enumerated, real, octetString, bitString, visibleString}
+use Rattle.x696.specs.Leaf.{leafKind, realKind}
 use Rattle.x696.specs.Types.{Ty, leaf, sequence, sequenceOf, choice, Items, noItems, item, itemCount}
 use Rattle.x696.specs.Read.{times}
 

@@ -3,7 +3,8 @@
 -- Assumes nothing.
 use mathlib.Core.Path.{_≡_}
 use Prim.Native.Nat.{ℕ, zero, suc, _<_}
-use Rattle.x696.specs.Types.{Ty, leaf, sequence, sequenceOf, choice, Items, noItems, item, itemCount, missing, alternative, tagAt}
+use Rattle.x696.specs.Types.{Ty, leaf, sequence, sequenceOf, choice, Items, noItems, item, itemCount, missing}
+use Rattle.x696.specs.Types.{alternative, tagAt}
 use Rattle.x696.specs.Fits.{Fits}
 
 abbrev pub DefaultFits : (mark default : ℕ) → Ty → Type 0
