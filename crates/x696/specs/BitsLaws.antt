@@ -34,7 +34,8 @@ preamble-number : (n : ℕ) (bs : List ℕ) → length bs ≡ n → Below 1 bs
 unfolding preamble
 preamble-number n bs e b =
     let small : fromDigits 1 bs < 2 ^ n = rw (one-mul, e) at (fromDigits-lt 1 bs b) in
-    fromDigits-digits 8 (bitOctets n) (fromDigits 1 bs * 2 ^ unusedBits n) (rw (bits-fill n) at (shl-lt n (unusedBits n) small))
+    fromDigits-digits 8 (bitOctets n) (fromDigits 1 bs * 2 ^ unusedBits n)
+    (rw (bits-fill n) at (shl-lt n (unusedBits n) small))
 
 shifted-clear : (a k : ℕ) → (a * 2 ^ k) % 2 ^ k ≡ 0
 shifted-clear a k = let e : a * 2 ^ k ≡ a * 2 ^ k + 0 = omega arith in ap (λ x. x % 2 ^ k) e ∙ low a k (pow-pos k)
@@ -64,6 +65,8 @@ preamble-sound n p s {bs} {r} b e =
     let lt : fromDigits 8 os < 2 ^ (n + unusedBits n) = rw (a .1, ← (bits-fill n)) at (fromDigits-lt 8 os bo) in
     let small : fromDigits 8 os / 2 ^ unusedBits n < 2 ^ (1 * n) = rw (one-mul n) (shr-lt n (unusedBits n) lt) in
     let z = eqb-true (fromDigits 8 os % 2 ^ unusedBits n) 0 t in
-    let up : fromDigits 8 os / 2 ^ unusedBits n * 2 ^ unusedBits n ≡ fromDigits 8 os = omega (arith, split (fromDigits 8 os) (unusedBits n)) in
+    let up : fromDigits 8 os / 2 ^ unusedBits n * 2 ^ unusedBits n ≡ fromDigits 8 os =
+    omega (arith, split (fromDigits 8 os) (unusedBits n)) in
     let back : digits 8 (bitOctets n) (fromDigits 8 os) ≡ os = rw (← (a .1)) (digits-fromDigits 8 os bo) in
-    (rw (← w, fromDigits-digits 1 n _ small, up, back) (cc (a .0)), rw (← w) (digits-length 1 n _), rw (← w) (digits-below 1 n _))
+    let from : s ≡ preamble n bs ++ r = rw (← w, fromDigits-digits 1 n _ small, up, back) (cc (a .0)) in
+    (from, rw (← w) (digits-length 1 n _), rw (← w) (digits-below 1 n _))

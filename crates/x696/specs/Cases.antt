@@ -1,16 +1,18 @@
--- The octets of document 01 that are to be proved, cases 1 to 12, together: one test over the list of cases, computed once.
--- Every case goes through a type table, its check and what the operations answer.
+-- The octets of document 01 to be proved, cases 1 to 12, together: one test over the list of cases, computed once.
+-- But for case 6 every case goes through a type table, its check and what the operations answer: replies, counts and
+-- lent buffers, which are one longer than the result.
 -- Assumes nothing.
 use mathlib.Core.Path.{_≡_, refl}
-use mathlib.Core.Bool.{Bool, true, false, _&&_}
-use mathlib.Core.List.{List, [], _∷_}
-use Prim.Native.Nat.{ℕ, _^_, _-_}
+use mathlib.Core.Bool.{Bool, true, _&&_}
+use mathlib.Core.List.{List, [], _∷_, _++_}
+use Prim.Native.Nat.{ℕ, suc, _^_, _-_, _/_}
+use lib.ListN.{length, replicate}
 use lib.Dec.{eqb}
 use Rattle.x696.specs.Length.{lengthOctets}
-use Rattle.x696.specs.Value.{Val, nodes, contents, sameOctets}
-use Rattle.x696.specs.Reply.{Answer, refusal, done}
-use Rattle.x696.specs.Operations.{valueIn, octetsFor}
-use Rattle.x696.specs.Editing.{editedOctets}
+use Rattle.x696.specs.Value.{nodeWidth, sameOctets}
+use Rattle.x696.specs.Reply.{Reply}
+use Rattle.x696.specs.Operations.{validate, Decoded, decode, Written, encodeList}
+use Rattle.x696.specs.Editing.{edit}
 use Rattle.x696.specs.Computing.{computing}
 
 -- -n as a word
@@ -68,25 +70,34 @@ pub data Case : Type 0 where
   -- a length and its determinant
   lengths : ℕ → (octets : List ℕ) → Case
 
-octetsAre : List ℕ → Answer (List ℕ) → Bool
+-- a lent buffer with room for a list and one more, and what it is then
+lent : List ℕ → List ℕ
+lent s = replicate (suc (length s)) 7
+
+filledBy : (new buffer : List ℕ) → Bool
 unfolding sameOctets
-octetsAre s (refusal n q p) = false
-octetsAre s (done os) = sameOctets os s
+filledBy new b = sameOctets b (new ++ (7 ∷ []))
 
-listIs : (ws cs : List ℕ) → Answer Val → Bool
-unfolding sameOctets nodes contents
-listIs ws cs (refusal n q p) = false
-listIs ws cs (done v) = sameOctets (nodes v) ws && sameOctets (contents v) cs
+isDone : (nodes octets : ℕ) → Reply → Bool
+isDone n o r = eqb (r .number) 0 && (eqb (r .part) 0 && (eqb (r .place) 0 && (eqb (r .nodes) n && eqb (r .octets) o)))
 
-refusalIs : (number place : ℕ) → Answer Val → Bool
-refusalIs n p (refusal m q z) = eqb n m && (eqb q 1 && eqb p z)
-refusalIs n p (done v) = false
+isRefusal : (number place : ℕ) → Reply → Bool
+isRefusal n p r = eqb (r .number) n && (eqb (r .part) 1 && (eqb (r .place) p && (eqb (r .nodes) 0 && eqb (r .octets) 0)))
+
+writes : (octets : List ℕ) → Written → Bool
+unfolding filledBy isDone
+writes s w = isDone 0 (length s) (w .reply) && filledBy s (w .out)
+
+hands : (ws cs : List ℕ) → Decoded → Bool
+unfolding filledBy isDone
+hands ws cs d = isDone (length ws / nodeWidth) (length cs) (d .reply) && (filledBy ws (d .nodes) && filledBy cs (d .contents))
 
 holds : Case → Bool
-unfolding computing octetsAre listIs refusalIs
-holds (codes r ws cs s) = octetsAre s (octetsFor rows items r ws cs) && listIs ws cs (valueIn rows items r s)
-holds (refuses r s n p) = refusalIs n p (valueIn rows items r s)
-holds (edits r s path ws s′) = octetsAre s′ (editedOctets rows items r s path ws [])
+unfolding computing lent writes hands isRefusal
+holds (codes r ws cs s) =
+    writes s (encodeList rows items r ws cs (lent s)) && hands ws cs (decode rows items r s (lent ws) (lent cs))
+holds (refuses r s n p) = isRefusal n p (validate rows items r s)
+holds (edits r s path ws s′) = writes s′ (edit rows items r s path ws [] (lent s′))
 holds (lengths n s) = sameOctets (lengthOctets n) s
 
 pub all : List Case → Bool

@@ -95,7 +95,8 @@ module _ (limit : ℕ) where
     completeInside (sequence-fits {is = is} {vs = vs} k h) end c c′ r e b =
         rw (
           append-assoc (preamble (markCount is) (presence is vs)) (encodeComponents is vs) r,
-          preamble-complete (markCount is) _ (presence is vs) (encodeComponents is vs ++ r) (presence-length h) (presence-bits h),
+          preamble-complete (markCount is) _ (presence is vs) (encodeComponents is vs ++ r)
+              (presence-length h) (presence-bits h),
           completeComponents h end (suc c) c′ r (omega arith) b,
           k,
         )
@@ -117,9 +118,13 @@ module _ (limit : ℕ) where
 
     completeComponent : {m d : ℕ} {t : Ty} {v : Val} → FitsComponent m d t v
         → (bits : List ℕ) (end c c′ : ℕ) (r : List ℕ) → c′ ≡ c + size v → c′ ≤ limit
-        → componentBy limit (λ s. counted limit end s λ s. readInside limit t end s) m d t (getD (presenceBits m d t v ++ bits) 0 0) end (message (carriedOctets m d t v (encode t v) ++ r) c) ≡ got v (message r c′)
-    completeComponent (plain {v = v} f) bits end c c′ r e b = rw (lt-ltb c limit (omega (arith, size-pos v)), completeInside f end c c′ r e b)
-    completeComponent (carried {v = v} f k) bits end c c′ r e b = rw (k, lt-ltb c limit (omega (arith, size-pos v)), completeInside f end c c′ r e b, k)
+        → componentBy limit (λ s. counted limit end s λ s. readInside limit t end s) m d t
+        (getD (presenceBits m d t v ++ bits) 0 0) end (message (carriedOctets m d t v (encode t v) ++ r) c)
+        ≡ got v (message r c′)
+    completeComponent (plain {v = v} f) bits end c c′ r e b =
+        rw (lt-ltb c limit (omega (arith, size-pos v)), completeInside f end c c′ r e b)
+    completeComponent (carried {v = v} f k) bits end c c′ r e b =
+        rw (k, lt-ltb c limit (omega (arith, size-pos v)), completeInside f end c c′ r e b, k)
     completeComponent (left-out {m = m} {d = d} {t = t} k) bits end c c′ r e b =
         let z = ap size k ∙ missing-size m d t in
         let q : c′ ≡ suc c = omega arith in
@@ -138,7 +143,9 @@ module _ (limit : ℕ) where
         )
 
     completeAll : {t : Ty} {vs : Vals} → FitAll t vs → (end c c′ : ℕ) (r : List ℕ) → c′ ≡ c + sizes vs → c′ ≤ limit
-        → times (λ s. counted limit end s λ s. readInside limit t end s) (valueCount vs) (message (each (λ v. encode t v) vs ++ r) c) ≡ got vs (message r c′)
+        → times (λ s. counted limit end s λ s. readInside limit t end s) (valueCount vs)
+        (message (each (λ v. encode t v) vs ++ r) c)
+        ≡ got vs (message r c′)
     completeAll no-elements end c c′ r e b = let q : c′ ≡ c = omega arith in rw q
     completeAll (element {t = t} {v = v} {vs = vs} f h) end c c′ r e b =
         rw (
@@ -151,7 +158,8 @@ module _ (limit : ℕ) where
     completeAlternative : {is : Items} {n : ℕ} {v : Val} → FitsAlternative is n v → (end c c′ : ℕ) (r : List ℕ)
         → c′ ≡ c + size v → c′ ≤ limit
         → readAlternative limit is n end (message (inner is n v ++ r) c) ≡ got v (message r c′)
-    completeAlternative (this {v = v} f) end c c′ r e b = rw (lt-ltb c limit (omega (arith, size-pos v)), completeInside f end c c′ r e b)
+    completeAlternative (this {v = v} f) end c c′ r e b =
+        rw (lt-ltb c limit (omega (arith, size-pos v)), completeInside f end c c′ r e b)
     completeAlternative (later h) end c c′ r e b = rw (completeAlternative h end c c′ r e b)
 
   pub complete : {t : Ty} {v : Val} → Fits t v → (end c c′ : ℕ) (r : List ℕ) → c′ ≡ c + size v → c′ ≤ limit

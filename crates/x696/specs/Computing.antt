@@ -21,7 +21,7 @@ use Rattle.x696.specs.Encode.{bit, presenceBits, presence, carriedOctets
 use Rattle.x696.specs.Read.{offset, times, counted, componentBy, readInside, read, readComponent}
 use Rattle.x696.specs.Walk.{nodeIn, numberIf, nodeAt, contentsAt, walkLeaf, isAbsent, walkAbsent, componentWalk}
 use Rattle.x696.specs.Walk.{walk, walkComponent}
-use Rattle.x696.specs.Table.{rowWord, itemWord, numbersFrom, itemsFrom, typeBy, typeAmong, typeOf}
+use Rattle.x696.specs.Table.{rowWord, itemWord, restZero, numbersFrom, itemsFrom, typeBy, typeAmong, typeOf}
 use Rattle.x696.specs.TableCheck.{given, every, ascending, greatest, defaultSound, noBounds, noRange, rangeInside}
 use Rattle.x696.specs.TableCheck.{integerSound, enumeratedSound, stringSound, componentSound, sequenceSound}
 use Rattle.x696.specs.TableCheck.{sequenceOfSound, alternativeSound, tagBefore, choiceSound}
@@ -47,7 +47,7 @@ unfolding next must choose digits fromDigits fewestIn fewest unsignedOctets isFe
     readText bitStringOctets readFixedBits bitsIn readBitString realKind leafKind encodeLeaf readLeaf kindOf
     itemCount presenceCount markCount missing alternative tagAt nesting bit presenceBits presence
     carriedOctets each encode ownOctets offset times counted componentBy readInside read readComponent nodeIn
-    numberIf nodeAt contentsAt walkLeaf isAbsent walkAbsent componentWalk walk walkComponent rowWord itemWord
+    numberIf nodeAt contentsAt walkLeaf isAbsent walkAbsent componentWalk walk walkComponent rowWord itemWord restZero
     numbersFrom itemsFrom typeBy typeAmong typeOf given every ascending greatest defaultSound noBounds noRange
     rangeInside integerSound enumeratedSound stringSound componentSound sequenceSound sequenceOfSound
     alternativeSound tagBefore choiceSound rowSound rowNesting rowsFault sizesSound tableFault componentAt

@@ -1,5 +1,5 @@
--- Numbers as digits of w bits, the top digit first: bits of a bitmap (w = 1), groups of a tag number (w = 7), octets (w = 8).
--- Clause 8.6.5 ("variable-size unsigned number"), 8.7.2.3 b and 16.2.3 all write a number so.
+-- Numbers as digits of w bits, the top digit first: bits of a bitmap (w = 1), groups of a tag number (w = 7),
+-- octets (w = 8). Clause 8.6.5 ("variable-size unsigned number"), 8.7.2.3 b and 16.2.3 all write a number so.
 -- Assumes nothing.
 use mathlib.Core.List.{List, [], _∷_}
 use Prim.Native.Nat.{ℕ, zero, suc, _+_, _*_, _^_, _/_, _%_, _<_}

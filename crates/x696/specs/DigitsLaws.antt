@@ -48,7 +48,8 @@ digits-fromDigits w (d ∷ ds) b =
 pub fromDigits-digits-mod : (w k n : ℕ) → fromDigits w (digits w k n) ≡ n % 2 ^ (w * k)
 unfolding digits fromDigits
 fromDigits-digits-mod w zero n = rw (mul-zero, mod-one)
-fromDigits-digits-mod w (suc k) n = rw (digits-length w k n, fromDigits-digits-mod w k n, mul-step w k, mod-pow-add n w (w * k))
+fromDigits-digits-mod w (suc k) n =
+    rw (digits-length w k n, fromDigits-digits-mod w k n, mul-step w k, mod-pow-add n w (w * k))
 
 pub fromDigits-digits : (w k n : ℕ) → n < 2 ^ (w * k) → fromDigits w (digits w k n) ≡ n
 fromDigits-digits w k n h = fromDigits-digits-mod w k n ∙ mod-eq-of-lt h

@@ -1,4 +1,5 @@
--- The octets of a value: clauses 16 (SEQUENCE), 17 (SEQUENCE OF), 20.1 (CHOICE); 31.9: a component equal to its DEFAULT is absent.
+-- The octets of a value: clauses 16 (SEQUENCE), 17 (SEQUENCE OF), 20.1 (CHOICE).
+-- 31.9: a component equal to its DEFAULT is absent.
 -- Assumes nothing.
 use mathlib.Core.Bool.{Bool, true, false, not}
 use mathlib.Core.List.{List, [], _∷_, _++_}

@@ -42,12 +42,14 @@ length-octets n h =
 unsigned-octets : (n : ℕ) → n < 2 ^ 64 → Below 8 (variableUnsigned n)
 unfolding variableUnsigned unsignedOctets
 unsigned-octets n h =
-    below-append 8 (lengthOctets (fewest 8 n)) _ (length-octets (fewest 8 n) (omega (arith, fewest-least 8 n 7 h))) (digits-below 8 (fewest 8 n) n)
+    below-append 8 (lengthOctets (fewest 8 n)) _
+    (length-octets (fewest 8 n) (omega (arith, fewest-least 8 n 7 h))) (digits-below 8 (fewest 8 n) n)
 
 signed-octets : (w : ℕ) → w < 2 ^ 64 → Below 8 (variableSigned w)
 unfolding variableSigned signedOctets
 signed-octets w h =
-    below-append 8 (lengthOctets (fewestSigned w)) _ (length-octets (fewestSigned w) (omega (arith, fewestSigned-le w h))) (digits-below 8 (fewestSigned w) w)
+    below-append 8 (lengthOctets (fewestSigned w)) _
+    (length-octets (fewestSigned w) (omega (arith, fewestSigned-le w h))) (digits-below 8 (fewestSigned w) w)
 
 form-octets : (z : Form) (w : ℕ) → w < 2 ^ 64 → Below 8 (formOctets z w)
 unfolding formOctets
@@ -70,7 +72,8 @@ counted-octets : (fixed : Bool) (os ys : List ℕ) → Below 8 os → Below 8 ys
 unfolding choose
 counted-octets true os ys b c h = b
 counted-octets false os ys b c h =
-    below-append 8 (lengthOctets (length ys)) ys (length-octets (length ys) (omega (arith, h, length-append (lengthOctets (length ys)) ys))) c
+    below-append 8 (lengthOctets (length ys)) ys
+    (length-octets (length ys) (omega (arith, h, length-append (lengthOctets (length ys)) ys))) c
 
 leaf-octets : {l : Leaf} {n : ℕ} {os : List ℕ} → LeafFits l n os → length (encodeLeaf l n os) < 2 ^ 64
     → Below 8 (encodeLeaf l n os)
@@ -108,9 +111,9 @@ mutual
   pub encode-octets : {t : Ty} {v : Val} → Fits t v → WellFormed t → length (encode t v) < 2 ^ 64 → Below 8 (encode t v)
   encode-octets (leaf-fits k f) w h = leaf-octets f h
   encode-octets (sequence-fits {is = is} {vs = vs} k f) w h =
+      let n = length-append (preamble (markCount is) (presence is vs)) (encodeComponents is vs) in
       below-append 8 (preamble (markCount is) (presence is vs)) (encodeComponents is vs)
-      (preamble-octets (markCount is) (presence is vs))
-      (components-octets f w (omega (arith, h, length-append (preamble (markCount is) (presence is vs)) (encodeComponents is vs))))
+      (preamble-octets (markCount is) (presence is vs)) (components-octets f w (omega (arith, h, n)))
   encode-octets (sequenceOf-fits {t = t} {n = n} {vs = vs} k l f) w h =
       below-append 8 (variableUnsigned n) (each (λ v. encode t v) vs) (unsigned-octets n l)
       (elements-octets f w (omega (arith, h, length-append (variableUnsigned n) (each (λ v. encode t v) vs))))
@@ -129,15 +132,16 @@ mutual
   components-octets no-components w h = tt
   components-octets (component {m = m} {d = d} {t = t} {is = is} {v = v} {vs = vs} f g) w h =
       let n = length-append (carriedOctets m d t v (encode t v)) (encodeComponents is vs) in
-      below-append 8 (carriedOctets m d t v (encode t v)) (encodeComponents is vs) (component-octets f (w .0) (omega (arith, h, n)))
-      (components-octets g (w .2) (omega (arith, h, n)))
+      below-append 8 (carriedOctets m d t v (encode t v)) (encodeComponents is vs)
+      (component-octets f (w .0) (omega (arith, h, n))) (components-octets g (w .2) (omega (arith, h, n)))
 
   elements-octets : {t : Ty} {vs : Vals} → FitAll t vs → WellFormed t → length (each (λ v. encode t v) vs) < 2 ^ 64
       → Below 8 (each (λ v. encode t v) vs)
   elements-octets no-elements w h = tt
   elements-octets (element {t = t} {v = v} {vs = vs} f g) w h =
       let n = length-append (encode t v) (each (λ v. encode t v) vs) in
-      below-append 8 (encode t v) (each (λ v. encode t v) vs) (encode-octets f w (omega (arith, h, n))) (elements-octets g w (omega (arith, h, n)))
+      below-append 8 (encode t v) (each (λ v. encode t v) vs)
+      (encode-octets f w (omega (arith, h, n))) (elements-octets g w (omega (arith, h, n)))
 
   alternative-octets : {is : Items} {n : ℕ} {v : Val} → FitsAlternative is n v → WellFormedAlternatives is
       → length (encodeAlternative is n (only v)) < 2 ^ 64

@@ -24,10 +24,12 @@ readEnumerated p s =
     next (octet p s) λ x r.
     choose (ltb x 128)
     (λ _. got x r)
-    (λ _. next (run p (x - 128) r) λ os r.
-    -- 0 to 127 take the short form; no subsequent octet is no number (31.5)
+    -- at least one subsequent octet (11.4)
+    (λ _. must (ltb 0 (x - 128)) 6 p
+    (next (run p (x - 128) r) λ os r.
+    -- 0 to 127 take the short form (31.5)
     must (leb 128 (fromDigits 8 os)) 6 p
     -- the smallest number of octets (31.5)
     (must (isFewestSigned os) 6 p
     -- house limit: 64 bits
-    (must (leb (length os) 8) 8 p (got (signedWord os) r))))
+    (must (leb (length os) 8) 8 p (got (signedWord os) r)))))

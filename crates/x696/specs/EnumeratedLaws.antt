@@ -50,6 +50,7 @@ enumerated-complete w p r h =
       e,
       le-ltb (128 + fewestSigned w) 128 (omega arith),
       x,
+      lt-ltb 0 (fewestSigned w) (fewestSigned-pos w),
       run-complete p (signedOctets w) r (fewestSigned w) (sym (signed-length w)),
       le-leb 128 (fromDigits 8 (signedOctets w)) (high-octets w h l),
       signed-back w h .1,
@@ -65,7 +66,8 @@ enumerated-sound p s {w} {r} b e =
     let a = octet-sound p s was in
     choose-inv _ _ _ then
     (λ t q. let m : x ≡ w = cc in rw (← m, t) (cc a, omega (arith, ltb-true x 128 t)))
-    (λ t q.
+    (λ t q₀.
+    must-inv _ _ _ _ q₀ λ _ q.
     next-inv _ _ q λ os r₂ was′ then′.
     must-inv _ _ _ _ then′ λ u v.
     must-inv _ _ _ _ v λ u′ v′.

@@ -1,5 +1,5 @@
--- Clauses 31.2, 31.4, 31.5, 31.7 ("the smallest number of octets that can carry the value") and 8.7.2.3 c (first group not 0).
--- `FewestLaws` proves of both signs that the number found holds the value and that no smaller one does.
+-- Clauses 31.2, 31.4, 31.5, 31.7 ("the smallest number of octets that can carry the value") and 8.7.2.3 c (first group
+-- not 0). `FewestLaws` and `SignedLaws` prove that the number found holds the value and that no smaller one does.
 -- Signed numbers are 64-bit words in two's complement. Assumes nothing.
 use mathlib.Core.Bool.{Bool, cond}
 use mathlib.Core.List.{List}
@@ -36,7 +36,7 @@ fewestSigned w = fewest 8 (2 * magnitude w)
 unfoldable pub signedOctets : (word : ℕ) → List ℕ
 signedOctets w = digits 8 (fewestSigned w) w
 
--- k octets that hold the unsigned number m, taken as two's complement: their magnitude, and the word that they stand for
+-- k octets that hold the unsigned number m, as two's complement: their magnitude, and the word that they stand for
 unfoldable pub magnitudeIn : (k m : ℕ) → ℕ
 magnitudeIn k m = cond (ltb (2 * m) (2 ^ (8 * k))) m (2 ^ (8 * k) - 1 - m)
 

@@ -1,4 +1,5 @@
--- Fewest octets: that many hold the number, and no fewer do; digits are the fewest exactly if there is one, or the first is not 0.
+-- Fewest octets: that many hold the number, and no fewer do; digits are the fewest exactly if there is one, or the
+-- first is not 0.
 -- Assumes nothing.
 use mathlib.Core.Path.{_≡_, sym, _∙_}
 use mathlib.Core.Bool.{true, false}
@@ -98,7 +99,8 @@ unpadded : (w d : ℕ) (ds : List ℕ) → 1 ≤ w → Below w (suc d ∷ ds) �
 unfolding isFewest
 unpadded w d ds h b =
     let top : 2 ^ (w * length ds) ≤ fromDigits w (suc d ∷ ds) = unfold fromDigits in omega arith in
-    eq-eqb (suc (length ds)) (fewest w (fromDigits w (suc d ∷ ds))) (sym (fewest-is w _ (length ds) h (fromDigits-lt w (suc d ∷ ds) b) top))
+    eq-eqb (suc (length ds)) (fewest w (fromDigits w (suc d ∷ ds)))
+    (sym (fewest-is w _ (length ds) h (fromDigits-lt w (suc d ∷ ds) b) top))
 
 pub isFewest-more : (w d e : ℕ) (ds : List ℕ) → 1 ≤ w → Below w (d ∷ e ∷ ds) → isFewest w (d ∷ e ∷ ds) ≡ ltb 0 d
 isFewest-more w zero e ds h b = padded w (e ∷ ds) (b .1) (omega arith)
@@ -119,7 +121,9 @@ isFewest-length w ds e = eqb-true _ _ e
 
 pub unsigned-fewest : (n : ℕ) → isFewest 8 (unsignedOctets n) ≡ true
 unfolding isFewest
-unsigned-fewest n = eq-eqb (length (unsignedOctets n)) (fewest 8 (fromDigits 8 (unsignedOctets n))) (rw (unsigned-back n) (unsigned-length n))
+unsigned-fewest n =
+    eq-eqb (length (unsignedOctets n)) (fewest 8 (fromDigits 8 (unsignedOctets n)))
+    (rw (unsigned-back n) (unsigned-length n))
 
 -- octets that are the fewest are their number's
 pub unsigned-only : (os : List ℕ) → Below 8 os → isFewest 8 os ≡ true → unsignedOctets (fromDigits 8 os) ≡ os

@@ -1,6 +1,7 @@
 -- Which values a type has.
--- A component is carried exactly if it differs from its missing value (31.9; ABSENT is the missing value of an OPTIONAL one).
--- An alternative stands at the place that its tag names; a sound table's tags differ, so that is every place. Assumes nothing.
+-- A component is carried exactly if it differs from its missing value (31.9; ABSENT is that of an OPTIONAL one).
+-- An alternative stands at the place that its tag names; a sound table's tags differ, so that is every place.
+-- Assumes nothing.
 use mathlib.Core.Path.{_≡_}
 use mathlib.Core.Bool.{false}
 use mathlib.Core.List.{List, []}

@@ -1,5 +1,5 @@
 -- Clause 10, INTEGER: its bounds, and the form that they give. The form is chosen by the bounds and never by the value.
--- flags 1: lower bound A present; 2: upper bound B present. A is signed; B is unsigned where A is present and at least 0.
+-- flags 1: lower bound A present; 2: upper bound B present. A is signed; B is unsigned if A is present and at least 0.
 -- Narrower than X.696: values and bounds stop at 64 bits. Assumes nothing.
 use mathlib.Core.Bool.{Bool, cond, not, _&&_, _||_}
 use mathlib.Core.List.{List}

@@ -1,4 +1,5 @@
--- INTEGER: the form that the bounds give holds every word that they allow; what is written is read back, and what is read was written so.
+-- INTEGER: the form that the bounds give holds every word that they allow; what is written is read back, and what is
+-- read was written so.
 -- Assumes nothing.
 use mathlib.Core.Path.{_≡_, sym, _∙_}
 use mathlib.Core.Bool.{true, not, _&&_, _||_}
@@ -96,10 +97,13 @@ allowed-holds f a b w h q =
     (λ u.
     let q′ : leb a w && (not (hasUpper f) || leb w b) ≡ true = rw u at q in
     cases (hasUpper f)
-    (λ v. let m : leb w b ≡ true = rw v at (and-both (leb a w) _ q′ .1) in rw (u, v) (unsignedWidth-holds w b (leb-true w b m) h))
+    (λ v.
+    let m : leb w b ≡ true = rw v at (and-both (leb a w) _ q′ .1) in
+    rw (u, v) (unsignedWidth-holds w b (leb-true w b m) h))
     (λ v. rw (u, v) tt))
     (λ u.
-    let q′ : (not (hasLower f) || leb (rank a) (rank w)) && (not (hasUpper f) || leb (rank w) (rank b)) ≡ true = rw u at q in
+    let q′ : (not (hasLower f) || leb (rank a) (rank w)) && (not (hasUpper f) || leb (rank w) (rank b)) ≡ true =
+    rw u at q in
     cases (hasLower f)
     (λ v.
     cases (hasUpper f)
@@ -127,7 +131,8 @@ integerForm-sane f a b =
 pub form-complete : (z : Form) (w p : ℕ) (r : List ℕ) → Sane z → w < 2 ^ 64 → Holds z w
     → readForm z p (formOctets z w ++ r) ≡ got w r
 unfolding readForm formOctets next signedWord
-form-complete (fixedUnsigned k) w p r s l h = rw (run-complete p (digits 8 k w) r k (sym (digits-length 8 k w)), fromDigits-digits 8 k w h)
+form-complete (fixedUnsigned k) w p r s l h =
+    rw (run-complete p (digits 8 k w) r k (sym (digits-length 8 k w)), fromDigits-digits 8 k w h)
 form-complete (fixedSigned zero) w p r s l h = absurd (omega (arith, s .0))
 form-complete (fixedSigned (suc k)) w p r s l h =
     rw (

@@ -1,5 +1,5 @@
--- The kinds without components, 1 to 9: which numbers and contents they have, their octets, how they are read from a message (clauses
--- 9 to 15 and 27, with 31.3), and how a list's node of such a kind is checked (11, then 7).
+-- The kinds without components, 1 to 9: which numbers and contents they have, their octets, and how they are
+-- read from a message: clauses 9 to 15 and 27, with 31.3. (`Walk` has how a list's node of such a kind is checked.)
 -- Assumes nothing.
 use mathlib.Core.Path.{_≡_}
 use mathlib.Core.Bool.{true, _||_}
@@ -70,11 +70,14 @@ unfoldable pub readLeaf : Leaf → (p : ℕ) → List ℕ → Outcome (List ℕ)
 readLeaf boolean p s = next (octet p s) λ x r. must (eqb x 0 || eqb x 255) 6 p (got (node 1 (x / 255) [] noValues) r)
 -- no octets (15)
 readLeaf null p s = got (node 6 0 [] noValues) s
-readLeaf (integer f a b) p s = next (readForm (integerForm f a b) p s) λ w r. must (allowed f a b w) 7 p (got (node 2 w [] noValues) r)
+readLeaf (integer f a b) p s =
+    next (readForm (integerForm f a b) p s) λ w r.
+    must (allowed f a b w) 7 p (got (node 2 w [] noValues) r)
 readLeaf (enumerated ns) p s = next (readEnumerated p s) λ w r. must (listed w ns) 7 p (got (node 3 w [] noValues) r)
 -- house rule: one NaN
 readLeaf (real w) p s =
-    next (run p (realOctets w) s) λ os r. must (realAllowed w (fromDigits 8 os)) 6 p (got (node (realKind w) (fromDigits 8 os) [] noValues) r)
+    next (run p (realOctets w) s) λ os r.
+    must (realAllowed w (fromDigits 8 os)) 6 p (got (node (realKind w) (fromDigits 8 os) [] noValues) r)
 readLeaf (octetString f a b) p s = readText anyOctets 7 f a b p s
 readLeaf (bitString f a b) p s = readBitString f a b p s
 readLeaf (visibleString f a b) p s = readText visible 9 f a b p s

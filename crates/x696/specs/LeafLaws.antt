@@ -42,8 +42,10 @@ leaf-complete (real-fits {w = w} {n = n} l h) p r =
       fromDigits-digits 8 (realOctets w) n l,
       h,
     )
-leaf-complete (octets-fit {f = f} {a = a} {b = b} {os = os} o l h) p r = rw (← l) (text-complete anyOctets 7 f a b os p r (rw l h) refl)
-leaf-complete (visible-fits {f = f} {a = a} {b = b} {os = os} o l h v) p r = rw (← l) (text-complete visible 9 f a b os p r (rw l h) v)
+leaf-complete (octets-fit {f = f} {a = a} {b = b} {os = os} o l h) p r =
+    rw (← l) (text-complete anyOctets 7 f a b os p r (rw l h) refl)
+leaf-complete (visible-fits {f = f} {a = a} {b = b} {os = os} o l h v) p r =
+    rw (← l) (text-complete visible 9 f a b os p r (rw l h) v)
 leaf-complete (bits-fit {f = f} {a = a} {b = b} {n = n} {os = os} o l z h) p r = bitString-complete f a b n os p r l z h
 
 -- 00 and FF
@@ -83,7 +85,9 @@ leaf-sound (real w) p s b e k =
     let bo = below-split 8 os r₁ b (m .0) .0 in
     let d : digits 8 (realOctets w) (fromDigits 8 os) ≡ os = rw (← (m .1)) (digits-fromDigits 8 os bo) in
     k (fromDigits 8 os) [] (real-fits (rw (m .1) at (fromDigits-lt 8 os bo)) t) (cc) (rw d (cc (m .0)))
-leaf-sound (octetString f a d) p s b e k = text-sound anyOctets 7 f a d p s b e λ os o h g v from. k (length os) os (octets-fit o refl h) v from
+leaf-sound (octetString f a d) p s b e k =
+    text-sound anyOctets 7 f a d p s b e λ os o h g v from. k (length os) os (octets-fit o refl h) v from
 leaf-sound (visibleString f a d) p s b e k =
     text-sound visible 9 f a d p s b e λ os o h g v from. k (length os) os (visible-fits o refl h g) v from
-leaf-sound (bitString f a d) p s b e k = bitString-sound f a d p s b e λ n os o l z h v from. k n os (bits-fit o l z h) v from
+leaf-sound (bitString f a d) p s b e k =
+    bitString-sound f a d p s b e λ n os o l z h v from. k n os (bits-fit o l z h) v from

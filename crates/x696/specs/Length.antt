@@ -1,5 +1,5 @@
--- Clause 8.6, the length determinant, with 31.2: 0 to 127 in one octet, else 128 plus a count and the length in its fewest octets.
--- Canonical only: the two tests of 31.2. A length is believed only when its octets are there.
+-- Clause 8.6, the length determinant, with 31.2: 0 to 127 in one octet, else 128 plus a count and the length in its
+-- fewest octets. Canonical only: the two tests of 31.2. A length is believed only when its octets are there.
 -- p is the place of a refusal: the first octet of the innermost value being read. Assumes nothing.
 use mathlib.Core.List.{List, [], _∷_}
 use Prim.Native.Nat.{ℕ, _+_, _-_}
@@ -27,11 +27,13 @@ readLength p s =
     next (octet p s) λ x r.
     choose (ltb x 128)
     (λ _. got x r)
-    (λ _. next (run p (x - 128) r) λ os r.
-    -- below 128 the short form is due; no subsequent octet is no length either (31.2)
+    -- at least one subsequent octet (8.6.5)
+    (λ _. must (ltb 0 (x - 128)) 6 p
+    (next (run p (x - 128) r) λ os r.
+    -- below 128 the short form is due (31.2)
     must (leb 128 (fromDigits 8 os)) 6 p
     -- the smallest number of octets (31.2)
-    (must (isFewest 8 os) 6 p (got (fromDigits 8 os) r)))
+    (must (isFewest 8 os) 6 p (got (fromDigits 8 os) r))))
 
 -- a length determinant and the octets that it counts (8.6.2)
 unfoldable pub readRun : (p : ℕ) → List ℕ → Outcome (List ℕ) (List ℕ)

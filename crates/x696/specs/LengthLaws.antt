@@ -6,13 +6,13 @@ use Prim.Native.Nat.{ℕ, _+_, _-_}
 use native.Mathlib.Omega.{arith}
 use lib.ListN.{length, take, drop, length-append, take-append-drop}
 use lib.Seq.{take-append-seam, drop-append-seam, length-take-le}
-use borrow.Author.Tests.{ltb-false, leb-true, le-ltb, le-leb}
+use borrow.Author.Tests.{ltb-false, leb-true, lt-ltb, le-ltb, le-leb}
 use Rattle.x696.specs.Outcome.{got, next, must, choose}
 use Rattle.x696.specs.OutcomeLaws.{next-inv, must-inv, choose-inv, refused-never, cases-lt}
 use Rattle.x696.specs.Digits.{fromDigits, Below}
 use Rattle.x696.specs.DigitsLaws.{below-split}
 use Rattle.x696.specs.Fewest.{fewest, unsignedOctets}
-use Rattle.x696.specs.FewestLaws.{unsigned-back, unsigned-length, unsigned-fewest, unsigned-only, isFewest-length}
+use Rattle.x696.specs.FewestLaws.{fewest-pos, unsigned-back, unsigned-length, unsigned-fewest, unsigned-only, isFewest-length}
 use Rattle.x696.specs.Length.{octet, run, lengthOctets, readLength, readRun}
 
 pub octet-sound : (p : ℕ) (s : List ℕ) {x : ℕ} {r : List ℕ} → octet p s ≡ got x r → s ≡ x ∷ r
@@ -23,7 +23,12 @@ octet-sound p (y ∷ s) e = cc
 pub run-complete : (p : ℕ) (os r : List ℕ) (n : ℕ) → n ≡ length os → run p n (os ++ r) ≡ got os r
 unfolding run must
 run-complete p os r n e =
-    rw (e, le-leb (length os) (length (os ++ r)) (omega (arith, length-append os r)), take-append-seam os r, drop-append-seam os r)
+    rw (
+      e,
+      le-leb (length os) (length (os ++ r)) (omega (arith, length-append os r)),
+      take-append-seam os r,
+      drop-append-seam os r,
+    )
 
 pub run-sound : (p n : ℕ) (s : List ℕ) {os r : List ℕ} → run p n s ≡ got os r → (s ≡ os ++ r) × (length os ≡ n)
 unfolding run
@@ -44,6 +49,7 @@ length-complete p n r =
       e,
       le-ltb (128 + fewest 8 n) 128 (omega arith),
       x,
+      lt-ltb 0 (fewest 8 n) (fewest-pos 8 n),
       run-complete p (unsignedOctets n) r (fewest 8 n) (sym (unsigned-length n)),
       unsigned-fewest n,
       unsigned-back n,
@@ -58,7 +64,8 @@ length-sound p s {n} {r} b e =
     let a = octet-sound p s was in
     choose-inv _ _ _ then
     (λ t q. let m : x ≡ n = cc in rw (← m, t) (cc a))
-    (λ t q.
+    (λ t q₀.
+    must-inv _ _ _ _ q₀ λ _ q.
     next-inv _ _ q λ os r₂ was′ then′.
     must-inv _ _ _ _ then′ λ u v.
     must-inv _ _ _ _ v λ u′ v′.

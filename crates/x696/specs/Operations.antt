@@ -1,13 +1,13 @@
 -- What each operation answers on every input: number, part, place, counts, and every word and octet of lent memory.
--- Order (document 01, "Replies"): 1, 2, 3; then as each operation says. A refusal leaves every lent buffer as it was; on 0 what lies
--- past the stated counts stays too. Contracts are equations with these definitions. Assumes nothing.
+-- Order (document 01, "Replies"): 1, 2, 3; then as each operation says. A refusal leaves every lent buffer as it was;
+-- on 0 what lies past the stated counts stays too. Contracts are equations with these definitions. Assumes nothing.
 use mathlib.Core.Bool.{_&&_}
 use mathlib.Core.List.{List, _++_}
 use Prim.Native.Nat.{ℕ, _*_, _/_, _%_}
 use lib.ListN.{length, drop}
 use lib.Dec.{ltb, leb, eqb}
 use Rattle.x696.specs.Outcome.{Outcome, got, next, must}
-use Rattle.x696.specs.Value.{Val, size, nodes, contents}
+use Rattle.x696.specs.Value.{Val, nodeWidth, size, nodes, contents}
 use Rattle.x696.specs.Types.{Ty}
 use Rattle.x696.specs.Encode.{encode}
 use Rattle.x696.specs.Read.{Message, message, offset, read}
@@ -37,13 +37,15 @@ asked rows items r = usable (tableFault rows items) rows items r
 unfoldable pub readMessage : Ty → List ℕ → Outcome Message Val
 readMessage t s =
     must (leb (length s) octetLimit) 4 0
-    (next (read nodeLimit t (length s) (message s 0)) λ v r. must (eqb (length (r .octets)) 0) 9 (offset (length s) (r .octets)) (got v r))
+    (next (read nodeLimit t (length s) (message s 0)) λ v r.
+    must (eqb (length (r .octets)) 0) 9 (offset (length s) (r .octets)) (got v r))
 
--- a whole value list for a component with this mark: an odd word 11, 10, 4, the walk, left over nodes 11, left over contents 11
+-- a whole value list for a component with this mark:
+-- an odd word 11, 10, 4, the walk, left over nodes 11, left over contents 11
 unfoldable pub walkList : (mark : ℕ) → Ty → (words contents : List ℕ) → Outcome Listed Val
 walkList m t ws cs =
-    must (eqb (length ws % 2) 0) 11 (length ws / 2)
-    (must (leb (length ws / 2) nodeLimit) 10 0
+    must (eqb (length ws % nodeWidth) 0) 11 (length ws / nodeWidth)
+    (must (leb (length ws / nodeWidth) nodeLimit) 10 0
     (must (leb (length cs) octetLimit) 4 0
     (next (walkComponent m t (listAt ws cs 0)) λ v r.
     must (eqb (length (r .words)) 0) 11 (r .at) (must (eqb (length (r .contents)) 0) 11 (r .at) (got v r)))))
@@ -85,13 +87,17 @@ pub record Decoded : Type 0 where
 unfoldable pub decodable : (rows items : List ℕ) → (row : ℕ) → (octets ns cs : List ℕ) → Answer Val
 decodable rows items r s ns cs =
     then (valueIn rows items r s) λ v.
-    unless (leb (size v * 2) (length ns) && leb (length (contents v)) (length cs)) 12 4 0 (done v)
+    unless (leb (size v * nodeWidth) (length ns) && leb (length (contents v)) (length cs)) 12 4 0 (done v)
 
 unfoldable pub decode : (rows items : List ℕ) → (row : ℕ) → (octets ns cs : List ℕ) → Decoded
 decode rows items r s ns cs =
     answer (decodable rows items r s ns cs)
     (λ n q p. record { reply = refusalReply n q p; nodes = ns; contents = cs })
-    λ v. record { reply = doneReply (size v) (length (contents v)); nodes = over (nodes v) ns; contents = over (contents v) cs }
+    λ v. record {
+      reply = doneReply (size v) (length (contents v));
+      nodes = over (nodes v) ns;
+      contents = over (contents v) cs;
+    }
 
 -- measure a value list: the octets of its value
 unfoldable pub octetsFor : (rows items : List ℕ) → (row : ℕ) → (ws cs : List ℕ) → Answer (List ℕ)
@@ -108,7 +114,9 @@ pub record Written : Type 0 where
 
 unfoldable pub written : Answer (List ℕ) → (out : List ℕ) → Written
 written a out =
-    answer a (λ n q p. record { reply = refusalReply n q p; out = out }) λ os. record { reply = doneReply 0 (length os); out = over os out }
+    answer a
+    (λ n q p. record { reply = refusalReply n q p; out = out })
+    λ os. record { reply = doneReply 0 (length os); out = over os out }
 
 -- encode: the octets at the front of the lent buffer
 unfoldable pub encodeList : (rows items : List ℕ) → (row : ℕ) → (ws cs out : List ℕ) → Written

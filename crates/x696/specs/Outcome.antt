@@ -1,7 +1,7 @@
--- What a reading comes to: a refusal with the number and the place of document 01, or what was read and where the reading then stands.
--- The standing S is the octets left, a message with its count of nodes (`Message`), or a value list (`Listed`).
--- Three combinators say everything: `next`, `must`, `choose`. Each refusal is a `must` of its own that names its clause.
--- Assumes nothing.
+-- What a reading comes to: a refusal with the number and the place of document 01, or what was read and where the
+-- reading then stands. The standing S is the octets left, a message with its count of nodes (`Message`), or a value
+-- list (`Listed`). Three combinators say everything: `next`, `must`, `choose`.
+-- Each refusal is a `must` of its own that names its clause. Assumes nothing.
 use mathlib.Core.Bool.{Bool, true, false}
 use Prim.Native.Nat.{ℕ}
 

@@ -1,4 +1,5 @@
--- Laws of outcomes, backwards: what was read before, if the whole was read. (Forwards is `rw` with `unfolding next must choose`.)
+-- Laws of outcomes, backwards: what was read before, if the whole was read.
+-- (Forwards is `rw` with `unfolding next must choose`.)
 -- Each hands what it finds to a continuation, so that everything stays a variable. Then case splits on tests.
 -- Assumes nothing.
 use mathlib.Core.Path.{_≡_, refl}

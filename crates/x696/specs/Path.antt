@@ -1,6 +1,6 @@
--- Paths (document 01, "Editing and reading by path"): a step is a component number, an element number, or 0 into a CHOICE's
--- alternative. The component at a path, the value with that component replaced, and where the component's own octets stand.
--- A path may end at an ABSENT component but not pass it: ABSENT has no children. Assumes nothing.
+-- Paths (document 01, "Editing and reading by path"): a step is a component number, an element number, or 0 into a
+-- CHOICE's alternative. The component at a path, the value with that component replaced, and where the component's own
+-- octets stand. A path may end at an ABSENT component but not pass it: ABSENT has no children. Assumes nothing.
 use mathlib.Core.List.{List, [], _∷_, _++_}
 use Prim.Native.Nat.{ℕ, zero, suc}
 use Rattle.x696.specs.Tag.{tagOctets}
@@ -10,7 +10,7 @@ use Rattle.x696.specs.Value.{Val, node, Vals, noValues, value, absent}
 use Rattle.x696.specs.Types.{Ty, leaf, sequence, sequenceOf, choice, Items, noItems, item, markCount, tagAt}
 use Rattle.x696.specs.Encode.{presence, encode, ownOctets}
 
--- a component: its mark and default (0, 0 in a SEQUENCE OF, in a CHOICE and for the whole value), its type and its value
+-- a component: its mark and default (0, 0 in a SEQUENCE OF, in a CHOICE and for the whole value), its type, its value
 pub data Child : Type 0 where
   noChild : Child
   child : (mark default : ℕ) → Ty → Val → Child

@@ -1,6 +1,6 @@
--- A message read as a value of a type: the first fault in reading order, or the value, the octets after it and the nodes so far.
--- `end` is where the octets end: what is left, s, begins at offset end - length s. `limit` is the greatest number of nodes.
--- A node is counted before any octet of its value is looked at (10). Assumes nothing.
+-- A message read as a value of a type: the first fault in reading order, or the value, the octets after it and the
+-- nodes so far. `end` is where the octets end: what is left, s, begins at offset end - length s. `limit` is the
+-- greatest number of nodes. A node is counted before any octet of its value is looked at (10). Assumes nothing.
 use mathlib.Core.Bool.{not}
 use mathlib.Core.List.{List, []}
 use Prim.Native.Nat.{ℕ, zero, suc, _-_}
@@ -37,7 +37,8 @@ module _ (limit : ℕ) where
   unfoldable pub counted : (end : ℕ) → Message → (Message → Outcome Message Val) → Outcome Message Val
   counted end s k = must (ltb (s .count) limit) 10 (offset end (s .octets)) (k (message (s .octets) (suc (s .count))))
 
-  -- a component, given the reader of its type: plain; or with its presence bit, then it is missing or differs from what it is if missing
+  -- a component, given the reader of its type: plain; or with its presence bit,
+  -- then it is missing or differs from what it is if missing
   unfoldable pub componentBy : (Message → Outcome Message Val) → (mark default : ℕ) → Ty → (bit end : ℕ) → Message
       → Outcome Message Val
   componentBy f zero d t x end s = f s
@@ -50,18 +51,21 @@ module _ (limit : ℕ) where
   unfoldable mutual
     -- a value whose own node is counted
     pub readInside : Ty → (end : ℕ) → Message → Outcome Message Val
-    readInside (leaf l) end s = next (readLeaf l (offset end (s .octets)) (s .octets)) λ v r. got v (message r (s .count))
+    readInside (leaf l) end s =
+        next (readLeaf l (offset end (s .octets)) (s .octets)) λ v r. got v (message r (s .count))
     readInside (sequence is) end s =
         next (readPreamble (markCount is) (offset end (s .octets)) (s .octets)) λ bits r.
         next (readComponents is bits end (message r (s .count))) λ vs s. got (node 10 (itemCount is) [] vs) s
     readInside (sequenceOf t) end s =
         next (readUnsigned (offset end (s .octets)) (s .octets)) λ n r.
-        next (times (λ s. counted end s λ s. readInside t end s) n (message r (s .count))) λ vs s. got (node 11 n [] vs) s
+        next (times (λ s. counted end s λ s. readInside t end s) n (message r (s .count))) λ vs s.
+        got (node 11 n [] vs) s
     readInside (choice is) end s =
         next (readTag (offset end (s .octets)) (s .octets)) λ g r.
         -- a tag of the type (20.1)
         must (ltb (alternative is g) (itemCount is)) 7 (offset end (s .octets))
-        (next (readAlternative is (alternative is g) end (message r (s .count))) λ v s. got (node 12 (alternative is g) [] (only v)) s)
+        (next (readAlternative is (alternative is g) end (message r (s .count))) λ v s.
+        got (node 12 (alternative is g) [] (only v)) s)
 
     pub readComponents : Items → (bits : List ℕ) → (end : ℕ) → Message → Outcome Message Vals
     readComponents noItems bits end s = got noValues s

@@ -1,6 +1,6 @@
 -- Clauses 12.2 and 12.3, REAL as IEEE 754 binary32 or binary64: the bits, big end first. 0 and -0 differ.
--- House rule, since X.696 gives none: the one NaN is 7FC00000 or 7FF8000000000000. Real by DER contents (12.4) is not built.
--- Assumes nothing.
+-- House rule, since X.696 gives none: the one NaN is 7FC00000 or 7FF8000000000000.
+-- Real by DER contents (12.4) is not built. Assumes nothing.
 use mathlib.Core.Bool.{Bool, _||_}
 use Prim.Native.Nat.{ℕ, _^_, _%_}
 use lib.Dec.{leb, eqb}

@@ -1,6 +1,6 @@
--- A single setting, and a shown text (document 01, "Editing and reading by path"): what a component of a value is read as.
--- ENUMERATED is signed; INTEGER is unsigned or signed by its type; NULL is a group of none, a CHOICE of one; a BIT STRING's size is in
--- bits. Reals are their IEEE 754 bits. Assumes nothing.
+-- A single setting, and a shown text (document 01, "Editing and reading by path"): what a component of a value is read
+-- as. ENUMERATED is signed; INTEGER is unsigned or signed by its type; NULL is a group of none, a CHOICE of one;
+-- a BIT STRING's size is in bits. Reals are their IEEE 754 bits. Assumes nothing.
 use mathlib.Core.Bool.{cond}
 use Prim.Native.Nat.{ℕ, _+_, _-_}
 use lib.ListN.{length}
@@ -13,7 +13,7 @@ use Rattle.x696.specs.Types.{Ty, leaf, sequence, sequenceOf, choice}
 use Rattle.x696.specs.Encode.{encode}
 
 pub data Setting : Type 0 where
-  isAbsent : Setting
+  absentSetting : Setting
   truth unsignedNumber signedNumber single double stringSize group : (word : ℕ) → Setting
 
 unfoldable pub leafSetting : Leaf → (number : ℕ) → Setting
@@ -35,9 +35,10 @@ typeSetting (choice is) n = group 1
 
 -- kind 0 is ABSENT
 unfoldable pub settingOf : Ty → Val → Setting
-settingOf t (node k n os vs) = cond (eqb k 0) isAbsent (typeSetting t n)
+settingOf t (node k n os vs) = cond (eqb k 0) absentSetting (typeSetting t n)
 
--- a string's contents are the last octets of its encoding: the part of the message that holds them, given the octets before it
+-- a string's contents are the last octets of its encoding:
+-- the part of the message that holds them, given the octets before it
 pub data Shown : Type 0 where
   fallback : Shown
   partOf : (start size : ℕ) → Shown
@@ -46,7 +47,7 @@ unfoldable pub shownString : (before : ℕ) → Ty → Val → Shown
 shownString before t (node k n os vs) = partOf (before + (length (encode t (node k n os vs)) - length os)) (length os)
 
 unfoldable pub shownIf : (before : ℕ) → Ty → Val → Setting → Shown
-shownIf before t v isAbsent = fallback
+shownIf before t v absentSetting = fallback
 shownIf before t v (truth w) = fallback
 shownIf before t v (unsignedNumber w) = fallback
 shownIf before t v (signedNumber w) = fallback

@@ -22,7 +22,7 @@ use Rattle.x696.specs.Leaf.{octetString, bitString, visibleString, encod
 use Rattle.x696.specs.Types.{Ty, leaf, sequence, sequenceOf, choice, missing}
 use Rattle.x696.specs.Encode.{carriedOctets, encode, ownOctets}
 use Rattle.x696.specs.Path.{found, find, octetsBefore}
-use Rattle.x696.specs.Setting.{Setting, isAbsent, stringSize, leafSetting, typeSetting, settingOf}
+use Rattle.x696.specs.Setting.{Setting, absentSetting, stringSize, leafSetting, typeSetting, settingOf}
 use Rattle.x696.specs.Setting.{shownString, shownIf}
 use Rattle.x696.specs.Editing.{shownAt, shownOctets}
 use Rattle.x696.specs.Locality.{own-stands}
@@ -52,7 +52,7 @@ string-ends (bitString f a b) n os e =
     (sized-ends (fixedSize f a b) os (lengthOctets (suc (length os)) ++ (unusedBits n ∷ [])))
 string-ends (visibleString f a b) n os e = sized-ends (fixedSize f a b) os (lengthOctets (length os))
 
-not-absent : (isZero : Bool) (w : Setting) {s : ℕ} → cond isZero isAbsent w ≡ stringSize s → w ≡ stringSize s
+not-absent : (isZero : Bool) (w : Setting) {s : ℕ} → cond isZero absentSetting w ≡ stringSize s → w ≡ stringSize s
 not-absent true w e = cc
 not-absent false w e = e
 

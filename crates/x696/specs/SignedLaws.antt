@@ -1,4 +1,5 @@
--- Two's complement: fewest octets of a word hold it and no fewer do; what is written is read back, and what is read was written so.
+-- Two's complement: fewest octets of a word hold it and no fewer do; what is written is read back, and what is read was
+-- written so.
 -- Assumes nothing.
 use mathlib.Core.Path.{_≡_, refl, ap, sym, _∙_}
 use mathlib.Core.Logic.{_⊎_, inl, inr, ⊎-elim}
@@ -44,11 +45,13 @@ word-back k w h g b =
     ap (λ x. x % 2 ^ (8 * suc k)) v ∙ complement-mod (suc k) (2 ^ 64 - 1 - w) h (omega arith) in
     let n = octets-le (suc k) h in
     let m = octet-more k in
-    rw (e, q, le-ltb (2 * (2 ^ (8 * suc k) - 1 - (2 ^ 64 - 1 - w))) (2 ^ (8 * suc k)) (omega arith)) (omega arith, omega arith))
+    rw (e, q, le-ltb (2 * (2 ^ (8 * suc k) - 1 - (2 ^ 64 - 1 - w))) (2 ^ (8 * suc k)) (omega arith))
+    (omega arith, omega arith))
 
 -- the word that k octets stand for
 pub word-in : (k m : ℕ) → suc k ≤ 8 → m < 2 ^ (8 * suc k)
-    → (wordIn (suc k) m < 2 ^ 64) × (magnitude (wordIn (suc k) m) ≡ magnitudeIn (suc k) m) × (wordIn (suc k) m % 2 ^ (8 * suc k) ≡ m)
+    → (wordIn (suc k) m < 2 ^ 64) × (magnitude (wordIn (suc k) m) ≡ magnitudeIn (suc k) m)
+    × (wordIn (suc k) m % 2 ^ (8 * suc k) ≡ m)
 unfolding wordIn magnitudeIn magnitude
 word-in k m h g =
     let n = octets-le (suc k) h in
@@ -58,7 +61,8 @@ word-in k m h g =
     (λ e l.
     let q : 2 ^ 64 - 2 ^ (8 * suc k) + m ≡ 2 ^ 64 - 1 - (2 ^ (8 * suc k) - 1 - m) = omega arith in
     let f = complement-mod (suc k) (2 ^ (8 * suc k) - 1 - m) h (omega arith) in
-    rw (e, q, le-ltb (2 ^ 64 - 1 - (2 ^ (8 * suc k) - 1 - m)) (2 ^ 63) (omega arith)) (omega arith, omega arith, f ∙ omega arith))
+    rw (e, q, le-ltb (2 ^ 64 - 1 - (2 ^ (8 * suc k) - 1 - m)) (2 ^ 63) (omega arith))
+    (omega arith, omega arith, f ∙ omega arith))
 
 pub magnitude-lt : (w : ℕ) → w < 2 ^ 64 → magnitude w < 2 ^ 63
 unfolding magnitude
@@ -95,7 +99,8 @@ fewestSigned-pos w = fewest-pos 8 (2 * magnitude w)
 pub fewestSigned-holds : (w h : ℕ) → w < 2 ^ 64 → 2 * h ≡ 2 ^ (8 * fewestSigned w) → HoldsSigned h w
 fewestSigned-holds w h l e =
     let n = octets-le (fewestSigned w) (fewestSigned-le w l) in
-    let m : 2 * magnitude w < 2 ^ (8 * fewestSigned w) = unfold fewestSigned in fewest-holds 8 (2 * magnitude w) (omega arith) in
+    let m : 2 * magnitude w < 2 ^ (8 * fewestSigned w) =
+    unfold fewestSigned in fewest-holds 8 (2 * magnitude w) (omega arith) in
     magnitude-holds h w (omega arith) l (omega arith)
 
 -- no fewer hold it
@@ -114,8 +119,10 @@ signed-length w = digits-length 8 (fewestSigned w) w
 pub signed-back : (w : ℕ) → w < 2 ^ 64 → (signedWord (signedOctets w) ≡ w) × (isFewestSigned (signedOctets w) ≡ true)
 unfolding signedWord isFewestSigned signedOctets
 signed-back w h =
-    let g = go (fewestSigned w) (fewestSigned-pos w) (fewestSigned-le w h) (unfold fewestSigned in fewest-holds 8 (2 * magnitude w) (omega arith)) in
-    rw (digits-length 8 (fewestSigned w) w, g .0, g .1) (refl, eq-eqb (fewestSigned w) (fewest 8 (2 * magnitude w)) (unfold fewestSigned in refl))
+    let g = go (fewestSigned w) (fewestSigned-pos w) (fewestSigned-le w h)
+    (unfold fewestSigned in fewest-holds 8 (2 * magnitude w) (omega arith)) in
+    rw (digits-length 8 (fewestSigned w) w, g .0, g .1)
+    (refl, eq-eqb (fewestSigned w) (fewest 8 (2 * magnitude w)) (unfold fewestSigned in refl))
   where
     go : (k : ℕ) → 1 ≤ k → k ≤ 8 → 2 * magnitude w < 2 ^ (8 * k)
         → (wordIn k (fromDigits 8 (digits 8 k w)) ≡ w) × (magnitudeIn k (fromDigits 8 (digits 8 k w)) ≡ magnitude w)

@@ -167,12 +167,18 @@ module _ (limit : ℕ) where
         next-inv _ _ e λ bits r₁ was then.
         next-inv _ _ then λ vs r₂ was′ then′.
         let a = preamble-sound (markCount is) _ s b was in
-        let g = soundComponents is bits end (message r₁ (suc c)) (below-split 8 (preamble (markCount is) bits) r₁ b (a .0) .1) (a .2) (a .1) was′ in
+        let g = soundComponents is bits end (message r₁ (suc c))
+        (below-split 8 (preamble (markCount is) bits) r₁ b (a .0) .1) (a .2) (a .1) was′ in
         let qv : node 10 (itemCount is) [] vs ≡ v = cc in
         let qr : r₂ ≡ r = cc in
         rw (← qv, ← qr) (record {
           fits = sequence-fits refl (g .fits);
-          from = cc (a .0, g .shown, g .from, append-assoc (preamble (markCount is) (presence is vs)) (encodeComponents is vs) (r₂ .octets));
+          from = cc (
+            a .0,
+            g .shown,
+            g .from,
+            append-assoc (preamble (markCount is) (presence is vs)) (encodeComponents is vs) (r₂ .octets),
+          );
           nodes = omega (arith, g .nodes);
           within = g .within h;
         })
@@ -180,8 +186,10 @@ module _ (limit : ℕ) where
         next-inv _ _ e λ n r₁ was then.
         next-inv _ _ then λ vs r₂ was′ then′.
         let a = unsigned-sound _ s b was in
-        let g = times-sound t _ (λ s v r b e. must-inv _ _ _ _ e λ u w. soundInside t end (s .count) (s .octets) b (ltb-true (s .count) limit u) w) n (message r₁ (suc c))
-        (below-split 8 (variableUnsigned n) r₁ b (a .0) .1) was′ in
+        let g = times-sound t _
+        (λ s v r b e. must-inv _ _ _ _ e λ u w.
+        soundInside t end (s .count) (s .octets) b (ltb-true (s .count) limit u) w)
+        n (message r₁ (suc c)) (below-split 8 (variableUnsigned n) r₁ b (a .0) .1) was′ in
         let qv : node 11 n [] vs ≡ v = cc in
         let qr : r₂ ≡ r = cc in
         rw (← qv, ← qr) (record {
@@ -195,7 +203,8 @@ module _ (limit : ℕ) where
         must-inv _ _ _ _ then λ u w.
         next-inv _ _ w λ x r₂ was′ then′.
         let a = tag-sound _ s b was in
-        let m = soundAlternative is (alternative is g) end (message r₁ (suc c)) (below-split 8 (tagOctets g) r₁ b a .1) was′ in
+        let m = soundAlternative is (alternative is g) end (message r₁ (suc c))
+        (below-split 8 (tagOctets g) r₁ b a .1) was′ in
         let own = alternative-tag is g (ltb-true _ _ u) in
         let qv : node 12 (alternative is g) [] (only x) ≡ v = cc in
         let qr : r₂ ≡ r = cc in
@@ -213,15 +222,25 @@ module _ (limit : ℕ) where
     soundComponents noItems bits end s {vs} {r} b l k e =
         let q : noValues ≡ vs = cc in
         let qr : s ≡ r = cc in
-        rw (← q, ← qr) (record { fits = no-components; shown = no-bits bits k; from = refl; nodes = omega arith; within = λ h. h })
+        rw (← q, ← qr) (record {
+          fits = no-components;
+          shown = no-bits bits k;
+          from = refl;
+          nodes = omega arith;
+          within = λ h. h;
+        })
     soundComponents (item m d t is) bits end s {vs} {r} b l k e =
         next-inv _ _ e λ v r₁ was then.
         next-inv _ _ then λ ws r₂ was′ then′.
-        let a = component-sound m d t _ (λ s v r b e. must-inv _ _ _ _ e λ u w. soundInside t end (s .count) (s .octets) b (ltb-true (s .count) limit u) w)
+        let a = component-sound m d t _
+        (λ s v r b e. must-inv _ _ _ _ e λ u w.
+        soundInside t end (s .count) (s .octets) b (ltb-true (s .count) limit u) w)
         bits end s b l (omega arith) was in
         let many = ap length (a .shown) ∙ length-append (presenceBits m d t v) (drop (presenceCount m) bits) in
-        let g = soundComponents is (drop (presenceCount m) bits) end r₁ (below-split 8 (ownOctets m d t v) (r₁ .octets) b (a .from) .1)
-        (below-split 1 (presenceBits m d t v) (drop (presenceCount m) bits) l (a .shown) .1) (omega (arith, presenceBits-length m d t v)) was′ in
+        let g = soundComponents is (drop (presenceCount m) bits) end r₁
+        (below-split 8 (ownOctets m d t v) (r₁ .octets) b (a .from) .1)
+        (below-split 1 (presenceBits m d t v) (drop (presenceCount m) bits) l (a .shown) .1)
+        (omega (arith, presenceBits-length m d t v)) was′ in
         let q : value v ws ≡ vs = cc in
         let qr : r₂ ≡ r = cc in
         rw (← q, ← qr) (record {
@@ -253,4 +272,5 @@ module _ (limit : ℕ) where
       → read limit t end s ≡ got v r
       → ReadAs limit t (s .octets) (s .count) v r
   unfolding read counted
-  sound t end s b e = must-inv _ _ _ _ e λ u w. soundInside t end (s .count) (s .octets) b (ltb-true (s .count) limit u) w
+  sound t end s b e =
+      must-inv _ _ _ _ e λ u w. soundInside t end (s .count) (s .octets) b (ltb-true (s .count) limit u) w

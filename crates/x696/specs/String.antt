@@ -1,6 +1,7 @@
--- Clauses 14 (OCTET STRING), 27 (VisibleString) and 13 (BIT STRING). Least and greatest size equal: contents alone (13.2, 14.1),
--- else a length determinant and contents (13.3, 14.2); a variable BIT STRING has its unused-bits octet before its contents (13.3.2).
--- A is the least size; flags 2: B is the greatest. A BIT STRING's size is in bits, and trailing zero bits count. Assumes nothing.
+-- Clauses 14 (OCTET STRING), 27 (VisibleString) and 13 (BIT STRING). Least and greatest size equal: contents alone
+-- (13.2, 14.1), else a length determinant and contents (13.3, 14.2); a variable BIT STRING has its unused-bits octet
+-- before its contents (13.3.2). A is the least size; flags 2: B is the greatest.
+-- A BIT STRING's size is in bits, and trailing zero bits count. Assumes nothing.
 use mathlib.Core.Bool.{Bool, true, not, _&&_, _||_}
 use mathlib.Core.List.{List, [], _∷_, _++_}
 use Prim.Native.Nat.{ℕ, suc, _*_, _-_}
@@ -35,7 +36,8 @@ readText characters kind f a b p s =
     must (sizeAllowed f a b (length os)) 7 p (must (characters os) 7 p (got (node kind (length os) os noValues) r))
 
 unfoldable pub bitStringOctets : (flags a b n : ℕ) → List ℕ → List ℕ
-bitStringOctets f a b n os = choose (fixedSize f a b) (λ _. os) (λ _. lengthOctets (suc (length os)) ++ (unusedBits n ∷ os))
+bitStringOctets f a b n os =
+    choose (fixedSize f a b) (λ _. os) (λ _. lengthOctets (suc (length os)) ++ (unusedBits n ∷ os))
 
 -- a fixed size: the contents alone
 unfoldable pub readFixedBits : (n p : ℕ) → List ℕ → Outcome (List ℕ) Val

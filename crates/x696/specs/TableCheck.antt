@@ -1,6 +1,7 @@
--- The check of a type table: every rule of document 01's "The type table", in order of rows; the first row that breaks one is named.
--- Each row's nesting is worked out once, from those of the smaller rows. `given` tests in order and stops at the first failure, so a
--- row's items are looked at only after its range. READINGS of these rules: docs/DECISIONS.md, 1 to 8. Assumes nothing.
+-- The check of a type table: every rule of document 01's "The type table", in order of rows; the first row that breaks
+-- one is named. Each row's nesting is worked out once, from those of the smaller rows. `given` tests in order and stops
+-- at the first failure, so a row's items are looked at only after its range.
+-- How these rules are read: docs/DECISIONS.md, 1 to 8. Assumes nothing.
 use mathlib.Core.Bool.{Bool, true, false, cond, not, _&&_, _||_}
 use mathlib.Core.List.{List}
 use Prim.Native.Nat.{ℕ, zero, suc, _+_, _/_, max}
@@ -11,7 +12,9 @@ use Rattle.x696.specs.Integer.{rank, hasLower, hasUpper, isUnsigned, all
 use Rattle.x696.specs.Enumerated.{listed}
 use Rattle.x696.specs.Leaf.{boolean, null, integer, enumerated, real, octetString, bitString, visibleString}
 use Rattle.x696.specs.Types.{Ty, leaf, sequence, sequenceOf, choice}
-use Rattle.x696.specs.Table.{rowFlags, rowA, rowB, rowFirst, rowCount, itemWidth, itemWord, typeOf}
+use Rattle.x696.specs.Table.{rowFlags, rowA, rowB, rowFirst, rowCount, itemWidth, typeOf}
+use Rattle.x696.specs.Table.{enumeratedNumber, restZero, componentRow, componentMark, componentDefault}
+use Rattle.x696.specs.Table.{tagClass, tagNumber, alternativeRow}
 
 -- a test, and only if it holds the next ones
 unfoldable pub given : Bool → (Unit {0} → Bool) → Bool
@@ -48,8 +51,8 @@ defaultSound (choice is) d = false
 -- the order of tags: by class, then number
 unfoldable pub tagBefore : (items : List ℕ) → (i j : ℕ) → Bool
 tagBefore items i j =
-    ltb (itemWord items i 0) (itemWord items j 0)
-    || (eqb (itemWord items i 0) (itemWord items j 0) && ltb (itemWord items i 1) (itemWord items j 1))
+    ltb (tagClass items i) (tagClass items j)
+    || (eqb (tagClass items i) (tagClass items j) && ltb (tagNumber items i) (tagNumber items j))
 
 module _ (rows items : List ℕ) where
   -- the words that a kind does not name are 0
@@ -79,8 +82,9 @@ module _ (rows items : List ℕ) where
       given (noBounds r) λ _.
       given (ltb 0 (rowCount rows r)) λ _.
       given (rangeInside r) λ _.
-      given (every (λ i. eqb (itemWord items i 1) 0 && eqb (itemWord items i 2) 0) (rowFirst rows r) (rowCount rows r)) λ _.
-      ascending (λ i j. ltb (rank (itemWord items i 0)) (rank (itemWord items j 0))) (rowFirst rows r) (rowCount rows r)
+      given (every (λ i. restZero items i) (rowFirst rows r) (rowCount rows r)) λ _.
+      ascending (λ i j. ltb (rank (enumeratedNumber items i)) (rank (enumeratedNumber items j)))
+      (rowFirst rows r) (rowCount rows r)
 
   -- kinds 7 to 9: A least size; flags 2 = B greatest size; each at most 65,535, A at most B
   unfoldable pub stringSound : (row : ℕ) → Bool
@@ -92,14 +96,15 @@ module _ (rows items : List ℕ) where
       given (leb a 65535 && leb b 65535) λ _.
       given (cond (hasUpper f) (leb a b) (eqb b 0)) λ _. noRange r
 
-  -- kind 10: an item (row, mark, default) names a smaller row; mark 0, 1 or 2; a default only under mark 2, and one of its type
+  -- kind 10: an item (row, mark, default) names a smaller row; mark 0, 1 or 2;
+  -- a default only under mark 2, and one of its type
   unfoldable pub componentSound : (row i : ℕ) → Bool
   componentSound r i =
-      given (ltb (itemWord items i 0) r) λ _.
-      given (ltb (itemWord items i 1) 3) λ _.
-      choose (eqb (itemWord items i 1) 2)
-      (λ _. defaultSound (typeOf rows items (itemWord items i 0)) (itemWord items i 2))
-      (λ _. eqb (itemWord items i 2) 0)
+      given (ltb (componentRow items i) r) λ _.
+      given (ltb (componentMark items i) 3) λ _.
+      choose (eqb (componentMark items i) 2)
+      (λ _. defaultSound (typeOf rows items (componentRow items i)) (componentDefault items i))
+      (λ _. eqb (componentDefault items i) 0)
 
   unfoldable pub sequenceSound : (row : ℕ) → Bool
   sequenceSound r =
@@ -112,13 +117,12 @@ module _ (rows items : List ℕ) where
       given (noBounds r) λ _.
       given (eqb (rowCount rows r) 1) λ _.
       given (rangeInside r) λ _.
-      given (eqb (itemWord items (rowFirst rows r) 1) 0 && eqb (itemWord items (rowFirst rows r) 2) 0) λ _.
-      ltb (itemWord items (rowFirst rows r) 0) r
+      given (restZero items (rowFirst rows r)) λ _. ltb (componentRow items (rowFirst rows r)) r
 
   -- kind 12: 1 or more items (class 0 to 3, number 0 to 2,097,151, row), strictly ascending by class, then number
   unfoldable pub alternativeSound : (row i : ℕ) → Bool
   alternativeSound r i =
-      given (ltb (itemWord items i 0) 4) λ _. given (leb (itemWord items i 1) 2097151) λ _. ltb (itemWord items i 2) r
+      given (ltb (tagClass items i) 4) λ _. given (leb (tagNumber items i) 2097151) λ _. ltb (alternativeRow items i) r
 
   unfoldable pub choiceSound : (row : ℕ) → Bool
   choiceSound r =

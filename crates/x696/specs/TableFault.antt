@@ -1,13 +1,13 @@
 -- TABLE SIZE and TABLE ROW: what a table's check comes to (document 01, numbers 1 and 2).
--- Both lists are measured before any row is looked at; the whole table is judged, also rows that the asked one does not reach.
--- Assumes nothing.
+-- Both lists are measured before any row is looked at; the whole table is judged, also rows that the asked one does
+-- not reach. Assumes nothing.
 use mathlib.Core.Bool.{Bool, _&&_, _||_}
 use mathlib.Core.List.{List, [], _∷_, _++_}
 use Prim.Native.Nat.{ℕ, zero, suc, _/_, _%_}
 use lib.ListN.{length, getD}
 use lib.Dec.{ltb, leb, eqb}
 use Rattle.x696.specs.Outcome.{choose}
-use Rattle.x696.specs.Table.{rowWidth, rowKind, rowFirst, rowCount, itemWidth, itemWord}
+use Rattle.x696.specs.Table.{rowWidth, rowKind, rowFirst, rowCount, itemWidth, componentRow, alternativeRow}
 use Rattle.x696.specs.TableCheck.{given, greatest, noBounds, noRange, integerSound, enumeratedSound, stringSound}
 use Rattle.x696.specs.TableCheck.{sequenceSound, sequenceOfSound, choiceSound}
 
@@ -29,12 +29,15 @@ module _ (rows items : List ℕ) where
       choose (eqb k 12) (λ _. choiceSound rows items r) λ _.
       given (ltb 0 k && ltb k 7) λ _. given (noBounds rows items r) λ _. noRange rows items r
 
-  -- the nesting of a row, from those of the smaller rows: 1 for kinds 1 to 9, else one more than the greatest among its items' rows
+  -- the nesting of a row, from those of the smaller rows: 1 for kinds 1 to 9,
+  -- else one more than the greatest among its items' rows
   unfoldable pub rowNesting : (smaller : List ℕ) → (row : ℕ) → ℕ
   rowNesting ns r =
       let k = rowKind rows r in
-      choose (eqb k 10 || eqb k 11) (λ _. suc (greatest (λ i. getD ns (itemWord items i 0) 0) (rowFirst rows r) (rowCount rows r))) λ _.
-      choose (eqb k 12) (λ _. suc (greatest (λ i. getD ns (itemWord items i 2) 0) (rowFirst rows r) (rowCount rows r))) λ _. 1
+      choose (eqb k 10 || eqb k 11)
+      (λ _. suc (greatest (λ i. getD ns (componentRow items i) 0) (rowFirst rows r) (rowCount rows r))) λ _.
+      choose (eqb k 12)
+      (λ _. suc (greatest (λ i. getD ns (alternativeRow items i) 0) (rowFirst rows r) (rowCount rows r))) λ _. 1
 
   -- n rows from r on, with the nestings of the rows before r: a nesting is at most 16
   unfoldable pub rowsFault : (r n : ℕ) → (smaller : List ℕ) → TableFault

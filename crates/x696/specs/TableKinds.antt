@@ -25,7 +25,8 @@ module _ (a b k : ℕ) (items : List ℕ) (f g : ℕ → Ty) where
   items-same : (first n : ℕ) → Each SameType first n → itemsFrom a b k f items first n ≡ itemsFrom a b k g items first n
   unfolding itemsFrom
   items-same first zero h = refl
-  items-same first (suc n) h = rw (each-first SameType first n h, items-same (suc first) n (each-later SameType first n h))
+  items-same first (suc n) h =
+      rw (each-first SameType first n h, items-same (suc first) n (each-later SameType first n h))
 
 abbrev pub IsLeaf : Ty → Type 0
 IsLeaf t = (l : Leaf) × (t ≡ leaf l)

@@ -30,7 +30,8 @@ module _ (a b k : ℕ) (items : List ℕ) (f : ℕ → Ty) (g : ℕ → ℕ) whe
       → greatest (λ i. g (itemWord items i k)) first n ≡ nestings (itemsFrom a b k f items first n)
   unfolding greatest nesting itemsFrom
   items-nesting first zero h = refl
-  items-nesting first (suc n) h = rw (each-first Right first n h, items-nesting (suc first) n (each-later Right first n h))
+  items-nesting first (suc n) h =
+      rw (each-first Right first n h, items-nesting (suc first) n (each-later Right first n h))
 
 module _ (rows items : List ℕ) where
   abbrev worked : (row : ℕ) → ℕ

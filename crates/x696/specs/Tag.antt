@@ -1,5 +1,5 @@
--- Clause 8.7, the tag of a CHOICE's alternative: the class in the top two bits; a number below 63 in the low six (8.7.2.2), else six
--- ones and groups of seven bits, the top bit set on all but the last (8.7.2.3).
+-- Clause 8.7, the tag of a CHOICE's alternative: the class in the top two bits; a number below 63 in the low six
+-- (8.7.2.2), else six ones and groups of seven bits, the top bit set on all but the last (8.7.2.3).
 -- A tag is read to its last octet (5), then its form is judged (6); its number has no limit here. Assumes nothing.
 use mathlib.Core.List.{List, [], _∷_}
 use Prim.Native.Nat.{ℕ, _+_, _*_, _/_, _%_, _-_}
@@ -24,7 +24,8 @@ tagOctets (tag class n) =
 
 unfoldable pub readGroups : (p : ℕ) → List ℕ → Outcome (List ℕ) (List ℕ)
 readGroups p [] = refused 5 p
-readGroups p (x ∷ s) = choose (ltb x 128) (λ _. got (x ∷ []) s) (λ _. next (readGroups p s) λ ds r. got ((x - 128) ∷ ds) r)
+readGroups p (x ∷ s) =
+    choose (ltb x 128) (λ _. got (x ∷ []) s) (λ _. next (readGroups p s) λ ds r. got ((x - 128) ∷ ds) r)
 
 unfoldable pub readTag : (p : ℕ) → List ℕ → Outcome (List ℕ) Tag
 readTag p s =

@@ -88,4 +88,5 @@ tag-sound p s {t} {r} b e =
     let u′ = ltb-false (x % 64) 63 u in
     let h : 64 * (x / 64) + 63 ≡ x = omega arith in
     let f : fewest 7 (fromDigits 7 ds) ≡ length ds = sym (isFewest-length 7 ds v′) in
-    rw (← m, le-ltb (fromDigits 7 ds) 63 (leb-true 63 (fromDigits 7 ds) v), h, f, digits-fromDigits 7 ds (g .1)) (cc (a, g .0)))
+    rw (← m, le-ltb (fromDigits 7 ds) 63 (leb-true 63 (fromDigits 7 ds) v), h, f, digits-fromDigits 7 ds (g .1))
+    (cc (a, g .0)))

@@ -1,5 +1,5 @@
--- Types as trees. An item is (mark, default, type) in a SEQUENCE and (class, number, type) in a CHOICE, as in the type table.
--- A SET is written as a SEQUENCE, its components already in the order of clause 18.2.
+-- Types as trees. An item is (mark, default, type) in a SEQUENCE and (class, number, type) in a CHOICE, as in the type
+-- table. A SET is written as a SEQUENCE, its components already in the order of clause 18.2.
 -- Assumes nothing.
 use mathlib.Core.Bool.{_&&_}
 use mathlib.Core.List.{[]}

@@ -1,5 +1,5 @@
--- Demand 2 on definitions: a message is accepted exactly if some value has it as its encoding; two values of one type never share an
--- encoding, and neither encoding begins the other. No size is assumed where none is needed.
+-- Demand 2 on definitions: a message is accepted exactly if some value has it as its encoding; two values of one type
+-- never share an encoding, and neither encoding begins the other. No size is assumed where none is needed.
 -- Assumes nothing.
 use mathlib.Core.Path.{_≡_, refl, ap, sym, _∙_}
 use mathlib.Core.Logic.{_↔_}

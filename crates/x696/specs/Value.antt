@@ -1,6 +1,6 @@
 -- Values as trees, and the value list of a value (document 01, "The value list").
--- Each node is as in the list: kind, number, a string's own octets, then what follows it as children. ABSENT is the node 0, 0.
--- Assumes nothing.
+-- Each node is as in the list: kind, number, a string's own octets, then what follows it as children.
+-- ABSENT is the node 0, 0. Assumes nothing.
 use mathlib.Core.Bool.{Bool, true, false, _&&_}
 use mathlib.Core.List.{List, [], _∷_, _++_}
 use Prim.Native.Nat.{ℕ, suc, _+_}
@@ -33,7 +33,10 @@ unfoldable mutual
   sizes noValues = 0
   sizes (value v vs) = size v + sizes vs
 
--- the words of its nodes, in order of the walk
+-- the words of its nodes, two a node, in order of the walk
+abbrev pub nodeWidth : ℕ
+nodeWidth = 2
+
 unfoldable mutual
   pub nodes : Val → List ℕ
   nodes (node k n os vs) = k ∷ n ∷ nodesOf vs

@@ -19,7 +19,8 @@ unfolding sameOctets
 sameOctets-eq [] [] e = refl
 sameOctets-eq [] (y ∷ ys) e = cc
 sameOctets-eq (x ∷ xs) [] e = cc
-sameOctets-eq (x ∷ xs) (y ∷ ys) e = let (p, q) = and-both (eqb x y) (sameOctets xs ys) e in cc (eqb-true x y p, sameOctets-eq xs ys q)
+sameOctets-eq (x ∷ xs) (y ∷ ys) e =
+    let (p, q) = and-both (eqb x y) (sameOctets xs ys) e in cc (eqb-true x y p, sameOctets-eq xs ys q)
 
 mutual
   unfolding same
@@ -45,4 +46,5 @@ mutual
   sames-eq noValues noValues e = refl
   sames-eq noValues (value w ws) e = cc
   sames-eq (value v vs) noValues e = cc
-  sames-eq (value v vs) (value w ws) e = let (a, b) = and-both (same v w) (sames vs ws) e in cc (same-eq v w a, sames-eq vs ws b)
+  sames-eq (value v vs) (value w ws) e =
+      let (a, b) = and-both (same v w) (sames vs ws) e in cc (same-eq v w a, sames-eq vs ws b)

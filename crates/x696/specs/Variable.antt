@@ -4,7 +4,7 @@
 use mathlib.Core.List.{List, _++_}
 use Prim.Native.Nat.{ℕ}
 use lib.ListN.{length}
-use lib.Dec.{leb}
+use lib.Dec.{ltb, leb}
 use Rattle.x696.specs.Outcome.{Outcome, got, next, must}
 use Rattle.x696.specs.Digits.{fromDigits}
 use Rattle.x696.specs.Fewest.{fewest, unsignedOctets, isFewest, fewestSigned, signedOctets, isFewestSigned}
@@ -17,10 +17,12 @@ variableUnsigned n = lengthOctets (fewest 8 n) ++ unsignedOctets n
 unfoldable pub readUnsigned : (p : ℕ) → List ℕ → Outcome (List ℕ) ℕ
 readUnsigned p s =
     next (readRun p s) λ os r.
-    -- smallest number of octets (31.4, 31.7)
-    must (isFewest 8 os) 6 p
+    -- at least one octet
+    must (ltb 0 (length os)) 6 p
+    -- the smallest number of octets (31.4, 31.7)
+    (must (isFewest 8 os) 6 p
     -- house limit: 64 bits
-    (must (leb (length os) 8) 8 p (got (fromDigits 8 os) r))
+    (must (leb (length os) 8) 8 p (got (fromDigits 8 os) r)))
 
 unfoldable pub variableSigned : (word : ℕ) → List ℕ
 variableSigned w = lengthOctets (fewestSigned w) ++ signedOctets w
@@ -28,7 +30,9 @@ variableSigned w = lengthOctets (fewestSigned w) ++ signedOctets w
 unfoldable pub readSigned : (p : ℕ) → List ℕ → Outcome (List ℕ) ℕ
 readSigned p s =
     next (readRun p s) λ os r.
-    -- smallest number of octets (31.4)
-    must (isFewestSigned os) 6 p
+    -- at least one octet
+    must (ltb 0 (length os)) 6 p
+    -- the smallest number of octets (31.4)
+    (must (isFewestSigned os) 6 p
     -- house limit: 64 bits
-    (must (leb (length os) 8) 8 p (got (signedWord os) r))
+    (must (leb (length os) 8) 8 p (got (signedWord os) r)))

@@ -1,6 +1,6 @@
--- A value list read as a value of a type (document 01, "The value list"): at each node 11, then 7; the place is the node's number.
--- A quantity is believed only as far as nodes go. Kinds and numbers are whole 64-bit words.
--- Nodes are taken by `nodeAt` and contents by `contentsAt` alone. Assumes nothing.
+-- A value list read as a value of a type (document 01, "The value list"): at each node 11, then 7; the place is the
+-- node's number. A quantity is believed only as far as nodes go. Kinds and numbers are whole 64-bit words.
+-- Nodes are looked at by `nodeIn` and `isAbsent`, contents by `contentsAt` alone. Assumes nothing.
 use mathlib.Core.Bool.{Bool, false}
 use mathlib.Core.List.{List, [], _∷_}
 use Prim.Native.Nat.{ℕ, zero, suc, _*_, _^_}
@@ -46,7 +46,8 @@ nodeAt kind s = next (nodeIn (s .words) (s .contents) (s .at)) λ x r. numberIf 
 -- the next n contents octets, for the string at node p; 11 where fewer are left
 unfoldable pub contentsAt : (p n : ℕ) → Listed → Outcome Listed (List ℕ)
 contentsAt p n s =
-    must (leb n (length (s .contents))) 11 p (got (take n (s .contents)) (listAt (s .words) (drop n (s .contents)) (s .at)))
+    must (leb n (length (s .contents))) 11 p
+    (got (take n (s .contents)) (listAt (s .words) (drop n (s .contents)) (s .at)))
 
 -- the node p of a kind without components, with its number
 unfoldable pub walkLeaf : Leaf → (p number : ℕ) → Listed → Outcome Listed Val
@@ -54,13 +55,18 @@ walkLeaf boolean p n s = must (ltb n 2) 11 p (got (node 1 n [] noValues) s)
 walkLeaf null p n s = must (eqb n 0) 11 p (got (node 6 n [] noValues) s)
 walkLeaf (integer f a b) p n s = must (allowed f a b n) 7 p (got (node 2 n [] noValues) s)
 walkLeaf (enumerated ns) p n s = must (listed n ns) 7 p (got (node 3 n [] noValues) s)
-walkLeaf (real w) p n s = must (ltb n (2 ^ (8 * realOctets w))) 11 p (must (realAllowed w n) 7 p (got (node (realKind w) n [] noValues) s))
-walkLeaf (octetString f a b) p n s = next (contentsAt p n s) λ os r. must (sizeAllowed f a b n) 7 p (got (node 7 n os noValues) r)
+walkLeaf (real w) p n s =
+    must (ltb n (2 ^ (8 * realOctets w))) 11 p
+    (must (realAllowed w n) 7 p (got (node (realKind w) n [] noValues) s))
+walkLeaf (octetString f a b) p n s =
+    next (contentsAt p n s) λ os r.
+    must (sizeAllowed f a b n) 7 p (got (node 7 n os noValues) r)
 walkLeaf (bitString f a b) p n s =
     next (contentsAt p (bitOctets n) s) λ os r.
     must (lowBitsClear (unusedBits n) os) 11 p (must (sizeAllowed f a b n) 7 p (got (node 8 n os noValues) r))
 walkLeaf (visibleString f a b) p n s =
-    next (contentsAt p n s) λ os r. must (sizeAllowed f a b n) 7 p (must (visible os) 7 p (got (node 9 n os noValues) r))
+    next (contentsAt p n s) λ os r.
+    must (sizeAllowed f a b n) 7 p (must (visible os) 7 p (got (node 9 n os noValues) r))
 
 -- ABSENT: kind 0, number 0
 unfoldable pub isAbsent : (words : List ℕ) → Bool
@@ -80,10 +86,12 @@ unfoldable mutual
   pub walk : Ty → Listed → Outcome Listed Val
   walk (leaf l) s = next (nodeAt (leafKind l) s) λ n r. walkLeaf l (s .at) n r
   walk (sequence is) s =
-      next (nodeAt 10 s) λ n r. must (eqb n (itemCount is)) 11 (s .at) (next (walkComponents is r) λ vs r. got (node 10 n [] vs) r)
+      next (nodeAt 10 s) λ n r.
+      must (eqb n (itemCount is)) 11 (s .at) (next (walkComponents is r) λ vs r. got (node 10 n [] vs) r)
   walk (sequenceOf t) s = next (nodeAt 11 s) λ n r. next (times (λ s. walk t s) n r) λ vs r. got (node 11 n [] vs) r
   walk (choice is) s =
-      next (nodeAt 12 s) λ n r. must (ltb n (itemCount is)) 11 (s .at) (next (walkAlternative is n r) λ v r. got (node 12 n [] (only v)) r)
+      next (nodeAt 12 s) λ n r.
+      must (ltb n (itemCount is)) 11 (s .at) (next (walkAlternative is n r) λ v r. got (node 12 n [] (only v)) r)
 
   pub walkComponents : Items → Listed → Outcome Listed Vals
   walkComponents noItems s = got noValues s

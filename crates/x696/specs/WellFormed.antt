@@ -1,6 +1,6 @@
--- What a sound table gives of each of its types: a DEFAULT is a value of its type, tag classes are 0 to 3, and every alternative's tag
--- leads back to its own place, so that no two have one tag. `TableTypes` proves it of every row of a table whose check finds no fault.
--- Assumes nothing.
+-- What a sound table gives of each of its types: a DEFAULT is a value of its type, tag classes are 0 to 3, and every
+-- alternative's tag leads back to its own place, so that no two have one tag. `TableTypes` proves it of every row of a
+-- table whose check finds no fault. Assumes nothing.
 use mathlib.Core.Path.{_≡_}
 use Prim.Native.Nat.{ℕ, zero, suc, _<_}
 use Rattle.x696.specs.Types.{Ty, leaf, sequence, sequenceOf, choice, Items, noItems, item, itemCount, missing}
