@@ -27,7 +27,7 @@ use Rattle.x696.specs.Encode.{encodeAlternative}
 use Rattle.x696.specs.Read.{message, times, counted, componentBy, readInside, readComponents, readAlternative}
 use Rattle.x696.specs.Read.{read}
 
-bit-lt : (b : Bool) → bit b < 2
+pub bit-lt : (b : Bool) → bit b < 2
 unfolding bit
 bit-lt true = omega arith
 bit-lt false = omega arith
