@@ -21,32 +21,14 @@ slice-aggregate-check-2 c = sym (length-take-le _ _ (c .before .before .if2 .lef
 check-requires : tie.Need-check-requires
 check-requires c κs = search needs
 
-print-decimal-requires : tie.Need-print-decimal-requires
-print-decimal-requires c κs = search needs
+show-reply-requires : tie.Need-show-reply-requires
+show-reply-requires c κs = search needs
 
 slice-aggregate-write-all : tie.Need-slice-aggregate-write-all
 slice-aggregate-write-all c = search needs
 
 write-all-requires : tie.Need-write-all-requires
 write-all-requires c κs = search needs
-
-print-decimal-requires-2 : tie.Need-print-decimal-requires-2
-print-decimal-requires-2 c κs = search needs
-
-slice-aggregate-write-all-2 : tie.Need-slice-aggregate-write-all-2
-slice-aggregate-write-all-2 c = search needs
-
-write-all-requires-2 : tie.Need-write-all-requires-2
-write-all-requires-2 c κs = search needs
-
-print-decimal-requires-3 : tie.Need-print-decimal-requires-3
-print-decimal-requires-3 c κs = search needs
-
-slice-aggregate-write-all-3 : tie.Need-slice-aggregate-write-all-3
-slice-aggregate-write-all-3 c = search needs
-
-write-all-requires-3 : tie.Need-write-all-requires-3
-write-all-requires-3 c κs = search needs
 
 returns-3 : tie.Need-returns-3
 returns-3 c = search needs
@@ -60,13 +42,7 @@ show-spec =
     slice-aggregate-check
     slice-aggregate-check-2
     check-requires
-    print-decimal-requires
+    show-reply-requires
     slice-aggregate-write-all
     write-all-requires
-    print-decimal-requires-2
-    slice-aggregate-write-all-2
-    write-all-requires-2
-    print-decimal-requires-3
-    slice-aggregate-write-all-3
-    write-all-requires-3
     returns-3)

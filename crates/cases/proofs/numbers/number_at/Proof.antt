@@ -5,8 +5,8 @@ use lib.ListN.{length}
 use native.Mathlib.Omega.{arith}
 use mathlib.Core.Path.{_≡_}
 use borrow.Author.Needs.{needs}
-use Rattle.checks.proofs.number_at.Statement.{statement}
-use Rattle.checks.proofs.number_at.Tie as tie
+use Rattle.cases.proofs.numbers.number_at.Statement.{statement}
+use Rattle.cases.proofs.numbers.number_at.Tie as tie
 
 abbrev Inv-loop : tie.InvT-loop
 Inv-loop s at value₀ i₀ value i = (i ≤ length s) × (value < 2 ^ 64)

@@ -5,8 +5,8 @@ use lib.ListN.{length}
 use native.Mathlib.Omega.{arith}
 use mathlib.Core.Path.{_≡_}
 use borrow.Author.Needs.{needs}
-use Rattle.checks.proofs.line_end.Statement.{statement}
-use Rattle.checks.proofs.line_end.Tie as tie
+use Rattle.cases.proofs.numbers.line_end.Statement.{statement}
+use Rattle.cases.proofs.numbers.line_end.Tie as tie
 
 abbrev Inv-loop : tie.InvT-loop
 Inv-loop s at i₀ i = (at ≤ i) × (i ≤ length s)

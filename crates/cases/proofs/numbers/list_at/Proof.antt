@@ -5,8 +5,8 @@ use lib.ListN.{length}
 use native.Mathlib.Omega.{arith}
 use mathlib.Core.Path.{_≡_}
 use borrow.Author.Needs.{needs}
-use Rattle.checks.proofs.list_at.Statement.{statement}
-use Rattle.checks.proofs.list_at.Tie as tie
+use Rattle.cases.proofs.numbers.list_at.Statement.{statement}
+use Rattle.cases.proofs.numbers.list_at.Tie as tie
 
 abbrev Inv-loop : tie.InvT-loop
 Inv-loop s at out₀ n next₀ i₀ out next i = (next ≤ length s) × (n ≤ length out) × (length out ≡ length out₀)
