@@ -1,2 +1,9 @@
 pub mod Marks
 pub mod TagSearch
+pub mod Groups
+pub mod Elements
+pub mod Alternatives
+pub mod Defaults
+pub mod Components
+pub mod Sequences
+pub mod Replying
