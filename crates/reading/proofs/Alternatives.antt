@@ -1,8 +1,8 @@
 -- A CHOICE: its tag, then the alternative that the tag names; one law for each way that its reader returns.
 -- A tag's number is read as far as 2,097,152, which no item has, so it names the same alternative as the whole number.
 -- Premises are the callees' `ensures`. Assumes nothing.
-use mathlib.Core.Path.{_≡_, refl, sym, ap, _∙_}
-use mathlib.Core.Bool.{true, _&&_}
+use mathlib.Core.Path.{_≡_, refl, sym, _∙_}
+use mathlib.Core.Bool.{true}
 use mathlib.Core.List.{List, [], _∷_}
 use Prim.Native.Nat.{ℕ, zero, suc, _+_, _*_, _<_, _≤_}
 use native.Mathlib.Omega.{arith}
@@ -12,14 +12,15 @@ use lib.ListN.{length, drop}
 use lib.Seq.{sets}
 use lib.Dec.{ltb, eqb}
 use borrow.Author.Tests.{lt-ltb, le-ltb, ne-eqb}
-use Rattle.x696.specs.Outcome.{Outcome, refused, got, next, must, choose}
-use Rattle.x696.specs.OutcomeLaws.{cases, cases-lt}
+use Rattle.x696.specs.Outcome.{Outcome, refused, got, next, must}
+use Rattle.x696.specs.OutcomeLaws.{cases-lt}
 use Rattle.x696.specs.Tag.{tag, readTag}
 use Rattle.x696.specs.Value.{Val, node, only, nodeWidth}
 use Rattle.x696.specs.Types.{Ty, Items, itemCount, alternative}
 use Rattle.x696.specs.Read.{Message, message, readInside, readAlternative, read}
 use Rattle.x696.specs.Operations.{nodeLimit}
-use Rattle.x696.specs.Table.{rowKind, rowFirst, rowCount, tagNumber, alternativeRow, itemsFrom, alternativesFrom, typeOf}
+use Rattle.x696.specs.Table.{rowKind, rowFirst, rowCount, tagNumber, alternativeRow, itemsFrom}
+use Rattle.x696.specs.Table.{alternativesFrom, typeOf}
 use Rattle.x696.specs.TableFault.{rowSound}
 use Rattle.x696.specs.TableTests.{Each, each-first, each-later}
 use Rattle.x696.specs.TableTags.{alternatives-count}
@@ -97,8 +98,8 @@ module _ (rows items msg : List ℕ) (row at count : ℕ) (inside : at ≤ lengt
       place-is : (whole : ℕ) → m .number ≡ capped whole → alternative among (tag (m .class) whole) ≡ j
       place-is whole capped-is =
           let known = choice-row rows items row sound is in
-          sym (alternative-capped (λ k. typeOf rows items k) items (m .class) whole (rowFirst rows row) (rowCount rows row)
-          (λ i h. known .alternative i h .number))
+          sym (alternative-capped (λ k. typeOf rows items k) items (m .class) whole
+          (rowFirst rows row) (rowCount rows row) (λ i h. known .alternative i h .number))
           ∙ sym (ej (λ k. typeOf rows items k) ∙ rw (eg, en, capped-is))
 
       named : alternative among (tag (m .class) (t .went m e .whole)) ≡ j
@@ -111,25 +112,24 @@ module _ (rows items msg : List ℕ) (row at count : ℕ) (inside : at ≤ lengt
           tag-first ∙ next-got _ (t .went m e .reads) ∙ rw (named, many, ← en, le-ltb j n h)
 
       module _ {inner : ℕ} (h : j < n) (ei : inner ≡ alternativeRow items (g + j)) where
-        chosen : D ≡ next (read nodeLimit (typeOf rows items inner) (length msg) (message (drop (m .next) msg) (count + 1))) λ v s.
-            got (node 12 j [] (only v)) s
+        abbrev O : Outcome Message Val
+        O = read nodeLimit (typeOf rows items inner) (length msg) (message (drop (m .next) msg) (count + 1))
+
+        chosen : D ≡ next O λ v s. got (node 12 j [] (only v)) s
         unfolding must
         chosen =
             let many = alternatives-count items (λ k. typeOf rows items k) (rowFirst rows row) (rowCount rows row) in
             let lt : j < rowCount rows row = rw (← en) h in
-            let one = alternative-read (λ k. typeOf rows items k) items (rowFirst rows row) (rowCount rows row) j (length msg)
-            (message (drop (m .next) msg) (suc count)) lt in
+            let one = alternative-read (λ k. typeOf rows items k) items (rowFirst rows row) (rowCount rows row) j
+            (length msg) (message (drop (m .next) msg) (suc count)) lt in
             tag-first ∙ next-got _ (t .went m e .reads) ∙
             rw (named, many, lt-ltb j (rowCount rows row) lt, one, ei, eg, add-one count)
 
-        pub chosen-stops : {k q : ℕ}
-            → read nodeLimit (typeOf rows items inner) (length msg) (message (drop (m .next) msg) (count + 1)) ≡ refused k q
-            → D ≡ refused k q
+        pub chosen-stops : {k q : ℕ} → O ≡ refused k q → D ≡ refused k q
         chosen-stops f = alone-stop 12 j chosen f
 
         pub chosen-goes : {u : ℕ} (l : List ℕ) {b l₁ l′ b′ : List ℕ} {d : Cursor} {r : Read}
             → l₁ ≡ sets l (count * nodeWidth) (12 ∷ j ∷ [])
-            → Gone msg (read nodeLimit (typeOf rows items inner) (length msg) (message (drop (m .next) msg) (count + 1)))
-            (m .next) (count + 1) u l₁ b l′ b′ d
+            → Gone msg O (m .next) (count + 1) u l₁ b l′ b′ d
             → r ≡ Got (cursor (d .at) (d .count) (d .used) j) → Ran msg D at count u l b l′ b′ r
         chosen-goes l s w f = alone-done 12 j chosen count l s (t .went m e .ahead) w f

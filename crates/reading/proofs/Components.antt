@@ -1,18 +1,19 @@
--- One component of a SEQUENCE: plain, missing (ABSENT or its DEFAULT), carried; one law for each way that its reader returns.
--- Premises are the callees' `ensures`. Assumes nothing.
-use mathlib.Core.Path.{_≡_, refl, sym, ap, _∙_}
-use mathlib.Core.Bool.{Bool, true, false, cond, not, _&&_}
+-- One component of a SEQUENCE, plain, missing (ABSENT or its DEFAULT) or carried: one law for each return of its
+-- reader. Premises are the callees' `ensures`.
+-- Assumes nothing.
+use mathlib.Core.Path.{_≡_, refl, sym, _∙_}
+use mathlib.Core.Bool.{Bool, true, false, not}
 use mathlib.Core.List.{List, []}
-use Prim.Native.Nat.{ℕ, zero, suc, _+_, _-_, _*_, _/_, _%_, _^_, _≤_}
+use Prim.Native.Nat.{ℕ, zero, suc, _+_, _-_, _/_, _%_, _^_, _≤_}
 use native.Mathlib.Omega.{arith}
 use lib.ListN.{length, drop, getD}
 use lib.Dec.{eqb}
-use borrow.Author.Tests.{eq-eqb, ne-eqb, eqb-true, eqb-false}
+use borrow.Author.Tests.{eq-eqb, eqb-true, eqb-false}
 use Rattle.x696.specs.Outcome.{Outcome, refused, got, next, must, choose}
 use Rattle.x696.specs.OutcomeLaws.{cases}
 use Rattle.x696.specs.Digits.{Below}
 use Rattle.x696.specs.Value.{Val, node, noValues, same}
-use Rattle.x696.specs.Types.{Ty, kindOf, missing}
+use Rattle.x696.specs.Types.{Ty, missing}
 use Rattle.x696.specs.Read.{Message, message, offset, counted, componentBy, read, readComponent}
 use Rattle.x696.specs.Sound.{sound}
 use Rattle.x696.specs.Operations.{nodeLimit}
@@ -47,11 +48,12 @@ unfolding readComponent componentBy
 marked-is zero d t x end s h = absurd (h refl)
 marked-is (suc m) d t x end s h = refl
 
-module _ (rows items msg : List ℕ) (row i pre b at count : ℕ) (inside : at ≤ length msg) (known : Component rows items row i)
-    (inner : ℕ) (ei : inner ≡ componentRow items i) (mark : ℕ) (em : mark ≡ componentMark items i) where
+module _ (rows items msg : List ℕ) (row i pre b at count : ℕ) (inside : at ≤ length msg)
+    (known : Component rows items row i) (inner : ℕ) (ei : inner ≡ componentRow items i)
+    (mark : ℕ) (em : mark ≡ componentMark items i) where
   abbrev P : Outcome Message Val
-  P = readComponent nodeLimit (componentMark items i) (componentDefault items i) (typeOf rows items (componentRow items i))
-      (bitAt msg pre b) (length msg) (message (drop at msg) count)
+  P = readComponent nodeLimit (componentMark items i) (componentDefault items i)
+      (typeOf rows items (componentRow items i)) (bitAt msg pre b) (length msg) (message (drop at msg) count)
 
   abbrev T : Ty
   T = typeOf rows items inner
@@ -65,7 +67,9 @@ module _ (rows items msg : List ℕ) (row i pre b at count : ℕ) (inside : at �
 
   module _ (marked : mark ≡ 0 → ⊥) (given : ℕ) (ed : given ≡ componentDefault items i)
       (x : Bool) (ex : x ≡ eqb (bitAt msg pre b) 1) where
-    by-bit : P ≡ choose (not x) (λ _. counted nodeLimit (length msg) (message (drop at msg) count) λ s. got (missing mark given T) s)
+    by-bit : P
+        ≡ choose (not x)
+        (λ _. counted nodeLimit (length msg) (message (drop at msg) count) λ s. got (missing mark given T) s)
         (λ _. next O λ v r. must (not (same v (missing mark given T))) 6 at (got v r))
     by-bit =
         rw (← em, ← ei, ← ed)
@@ -85,7 +89,8 @@ module _ (rows items msg : List ℕ) (row i pre b at count : ℕ) (inside : at �
         → P ≡ counted nodeLimit (length msg) (message (drop at msg) count) λ s. got (node k given [] noValues) s
     unfolding choose
     component-default e f k ek =
-        by-bit ∙ rw (e, missing-default mark given T marked f, default-kind rows items inner given (sound-default f), ek)
+        let kind = default-kind rows items inner given (sound-default f) in
+        by-bit ∙ rw (e, missing-default mark given T marked f, kind, ek)
 
     module _ (there : not x ≡ false) where
       carried : P ≡ next O λ v r. must (not (same v (missing mark given T))) 6 at (got v r)
@@ -117,7 +122,8 @@ module _ (rows items msg : List ℕ) (row i pre b at count : ℕ) (inside : at �
         pub carried-goes : {r : Read} → Below 8 msg → r ≡ checked mark given at d → Ran msg P at count u l n l′ n′ r
         unfolding must checked missing
         carried-goes below e =
-            let fit = sound nodeLimit T (length msg) (message (drop at msg) count) (below-drop 8 msg at below) (g .reads) .fits in
+            let fit = sound nodeLimit T (length msg) (message (drop at msg) count) (below-drop 8 msg at below)
+            (g .reads) .fits in
             cases (eqb mark 1)
             (λ t.
             let one : mark ≡ 1 = eqb-true mark 1 t in
@@ -125,7 +131,8 @@ module _ (rows items msg : List ℕ) (row i pre b at count : ℕ) (inside : at �
             (λ t.
             let other = eqb-false mark 1 t in
             let is : same (g .what) (missing mark given T) ≡ eqb (d .number) given =
-            rw (missing-default mark given T marked other, g .number) (default-same T given (g .what) (sound-default other) fit) in
+            rw (missing-default mark given T marked other, g .number)
+            (default-same T given (g .what) (sound-default other) fit) in
             cases (eqb (d .number) given)
             (λ y. ran-refused (carried-same (is ∙ y)) (rw (t, y) at e))
             (λ y. ran-gone (differing (is ∙ y)) (rw (t, y) at e)))

@@ -1,5 +1,6 @@
--- Values against what stands for a component that is not carried: a value of a type is never ABSENT, and it equals a DEFAULT of
--- its type exactly if its number is the default's (a DEFAULT is only for kinds 1, 2, 3 and 11). Assumes nothing.
+-- Values against what stands for a component that is not carried: a value of a type is never ABSENT, and it equals a
+-- DEFAULT of its type exactly if its number is the default's (a DEFAULT is only for kinds 1, 2, 3 and 11).
+-- Assumes nothing.
 use mathlib.Core.Path.{_≡_, refl, sym, ap, _∙_}
 use mathlib.Core.Bool.{Bool, true, false, false≢true, _&&_}
 use mathlib.Core.List.{List, []}
@@ -11,8 +12,8 @@ use Rattle.x696.specs.Outcome.{choose}
 use Rattle.x696.specs.OutcomeLaws.{choose-inv}
 use Rattle.x696.specs.Real.{binary32, binary64}
 use Rattle.x696.specs.Value.{Val, node, Vals, noValues, value, absent, valueCount, sameOctets, same, sames}
-use Rattle.x696.specs.Leaf.{Leaf, boolean, null, integer, enumerated, real, octetString, bitString, visibleString, leafKind, realKind}
-use Rattle.x696.specs.Leaf.{boolean-fits, integer-fits, enumerated-fits}
+use Rattle.x696.specs.Leaf.{Leaf, boolean, null, integer, enumerated, real, octetString, bitString, visibleString}
+use Rattle.x696.specs.Leaf.{leafKind, realKind, boolean-fits, integer-fits, enumerated-fits}
 use Rattle.x696.specs.Types.{Ty, leaf, sequence, sequenceOf, choice, kindOf, missing}
 use Rattle.x696.specs.Fits.{Fits, leaf-fits, sequence-fits, sequenceOf-fits, choice-fits}
 use Rattle.x696.specs.Table.{rowKind, typeBy, typeOf}
@@ -50,11 +51,13 @@ module _ (d : ℕ) where
   unfolding same numberOf sameOctets leafKind
   boolean-same (leaf-fits e (boolean-fits h)) = rw e (and-true _)
 
-  integer-same : {f a b : ℕ} {v : Val} → Fits (leaf (integer f a b)) v → same v (node 2 d [] noValues) ≡ eqb (numberOf v) d
+  integer-same : {f a b : ℕ} {v : Val} → Fits (leaf (integer f a b)) v
+      → same v (node 2 d [] noValues) ≡ eqb (numberOf v) d
   unfolding same numberOf sameOctets leafKind
   integer-same (leaf-fits e (integer-fits h g)) = rw e (and-true _)
 
-  enumerated-same : {ns : List ℕ} {v : Val} → Fits (leaf (enumerated ns)) v → same v (node 3 d [] noValues) ≡ eqb (numberOf v) d
+  enumerated-same : {ns : List ℕ} {v : Val} → Fits (leaf (enumerated ns)) v
+      → same v (node 3 d [] noValues) ≡ eqb (numberOf v) d
   unfolding same numberOf sameOctets leafKind
   enumerated-same (leaf-fits e (enumerated-fits h g)) = rw e (and-true _)
 
@@ -93,7 +96,8 @@ module _ (rows : List ℕ) (r d : ℕ) where
   abbrev OfKind : Ty → Type 0
   OfKind t = defaultSound t d ≡ true → kindOf t ≡ rowKind rows r
 
-  either : (k : ℕ) (x y : Unit {0} → Ty) → kindOf (x tt) ≡ k → OfKind (y tt) → OfKind (choose (eqb (rowKind rows r) k) x y)
+  either : (k : ℕ) (x y : Unit {0} → Ty) → kindOf (x tt) ≡ k → OfKind (y tt)
+      → OfKind (choose (eqb (rowKind rows r) k) x y)
   either k x y e f s =
       choose-inv (eqb (rowKind rows r) k) x y refl
       (λ t u. ap kindOf (sym u) ∙ e ∙ sym (eqb-true _ k t))

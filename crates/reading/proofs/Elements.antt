@@ -1,8 +1,8 @@
 -- A value at its place, its node counted; a SEQUENCE OF and its elements: one law for each way that the readers return.
 -- Premises are the callees' `ensures`. Assumes nothing.
-use mathlib.Core.Path.{_≡_, refl, sym, _∙_}
+use mathlib.Core.Path.{_≡_, _∙_}
 use mathlib.Core.List.{List, [], _∷_}
-use Prim.Native.Nat.{ℕ, zero, suc, _+_, _*_, _-_, _<_, _≤_}
+use Prim.Native.Nat.{ℕ, suc, _+_, _*_, _-_, _<_, _≤_}
 use native.Mathlib.Omega.{arith}
 use native.Mathlib.Nat.{sub-zero}
 use native.Mathlib.Numerals.{add-one}
@@ -36,11 +36,13 @@ use Rattle.reading.proofs.Groups.{ran-from, Rest, first, rest-turn, res
 -- ---- a value
 module _ (t : Ty) (msg : List ℕ) (at count : ℕ) where
   -- a node too many
-  pub value-full : at ≤ length msg → 4096 ≤ count → read nodeLimit t (length msg) (message (drop at msg) count) ≡ refused 10 at
+  pub value-full : at ≤ length msg → 4096 ≤ count
+      → read nodeLimit t (length msg) (message (drop at msg) count) ≡ refused 10 at
   unfolding read counted must
   value-full h g = rw (le-ltb count 4096 g, offset-is msg at h)
 
-  pub value-inside : count < 4096 → read nodeLimit t (length msg) (message (drop at msg) count) ≡ insideAt t msg at count
+  pub value-inside : count < 4096
+      → read nodeLimit t (length msg) (message (drop at msg) count) ≡ insideAt t msg at count
   unfolding read counted must insideAt
   value-inside g = rw (lt-ltb count 4096 g)
 
@@ -86,7 +88,7 @@ module _ (f : Message → Outcome Message Val) where
   pub times-zero : (n : ℕ) (s : Message) → times f n s ≡ times f (n - 0) s
   times-zero n s = rw (sub-zero n)
 
--- n elements of a type t; of them i are read, and what is left begins at p, with c nodes and w contents octets before it
+-- n elements of a type t: i of them are read, and the rest begins at p, with c nodes and w contents octets before it
 module _ (t : Ty) (msg : List ℕ) (n start count : ℕ) where
   abbrev pub element : Message → Outcome Message Val
   element = λ s. read nodeLimit t (length msg) s
@@ -100,7 +102,8 @@ module _ (t : Ty) (msg : List ℕ) (n start count : ℕ) where
       start (count + 1) u l₁ b (times element (n - i) (message (drop p msg) c)) p c w l₂ b₂) where
     pub element-stops : {j q : ℕ} → i < n → read nodeLimit t (length msg) (message (drop p msg) c) ≡ refused j q
         → elements n t msg start count ≡ refused j q
-    element-stops h e = group-stop 11 n node-first (rest-stop inv _ (times-step element n i (message (drop p msg) c) h) e)
+    element-stops h e =
+        group-stop 11 n node-first (rest-stop inv _ (times-step element n i (message (drop p msg) c) h) e)
 
     pub element-goes : {l₃ b₃ : List ℕ} {d : Cursor} → i < n
         → Gone msg (read nodeLimit t (length msg) (message (drop p msg) c)) p c w l₂ b₂ l₃ b₃ d
@@ -111,4 +114,5 @@ module _ (t : Ty) (msg : List ℕ) (n start count : ℕ) where
     pub elements-done : (l : List ℕ) {r : Read} → n ≤ i → p ≤ length msg → l₁ ≡ sets l (count * nodeWidth) (11 ∷ n ∷ [])
         → r ≡ Got (cursor p c w n) → Ran msg (elements n t msg start count) start count u l b l₂ b₂ r
     elements-done l h g s e =
-        group-done 11 n node-first msg count l s (omega arith) inv (times-done element n i (message (drop p msg) c) h) g e
+        group-done 11 n node-first msg count l s (omega arith) inv
+        (times-done element n i (message (drop p msg) c) h) g e

@@ -1,13 +1,15 @@
--- Groups while they are read: what is left of a group is to the whole as its values are; a group's node, then its values; a value
--- alone in a value. SEQUENCE, SEQUENCE OF and CHOICE share these. Assumes nothing.
-use mathlib.Core.Path.{_≡_, refl, sym, ap, _∙_}
+-- Groups while they are read: what is left of a group ends the whole (`Rest`); a group's node, then its values; a value
+-- alone in a value. SEQUENCE, SEQUENCE OF and CHOICE share these.
+-- Assumes nothing.
+use mathlib.Core.Path.{_≡_, refl, sym, _∙_}
 use mathlib.Core.List.{List, [], _∷_, _++_, append-nil}
 use Prim.Native.Nat.{ℕ, _+_, _*_, _≤_}
 use native.Mathlib.Omega.{arith}
 use lib.ListN.{length, drop, length-append}
 use lib.Seq.{sets}
 use Rattle.x696.specs.Outcome.{Outcome, refused, got, next}
-use Rattle.x696.specs.Value.{Val, node, Vals, noValues, value, only, nodeWidth, size, sizes, nodes, nodesOf, contents, contentsOf}
+use Rattle.x696.specs.Value.{Val, node, Vals, noValues, value, only, nodeWidth, size, sizes}
+use Rattle.x696.specs.Value.{nodes, nodesOf, contents, contentsOf}
 use Rattle.x696.specs.ListLaws.{nodes-length}
 use Rattle.x696.specs.Read.{Message, message}
 use Rattle.octets.proofs.Stores.{sets-after}
@@ -43,8 +45,8 @@ stored-node : (l ws : List ℕ) {m : List ℕ} (n k x : ℕ) → m ≡ sets l (n
 stored-node l ws n k x e = sets-after (k ∷ x ∷ []) ws l (n * nodeWidth) e (omega arith)
 
 -- ---- the rest of a group: vs, read from (p, n, u) on into l and b, ends what was begun at (p₀, n₀, u₀) into l₀ and b₀
-pub record End (o₀ : Outcome Message Vals) (p₀ n₀ u₀ : ℕ) (l₀ b₀ : List ℕ) (vs : Vals) (r : Message) (p n u : ℕ) (l b : List ℕ)
-    : Type 0 where
+pub record End (o₀ : Outcome Message Vals) (p₀ n₀ u₀ : ℕ) (l₀ b₀ : List ℕ) (vs : Vals) (r : Message) (p n u : ℕ)
+    (l b : List ℕ) : Type 0 where
   pub what : Vals
   pub reads : o₀ ≡ got what r
   pub count : n₀ + sizes what ≡ n + sizes vs
@@ -53,8 +55,8 @@ pub record End (o₀ : Outcome Message Vals) (p₀ n₀ u₀ : ℕ) (l₀ b₀ :
   pub stored : sets l₀ (n₀ * nodeWidth) (nodesOf what) ≡ sets l (n * nodeWidth) (nodesOf vs)
   pub copied : sets b₀ u₀ (contentsOf what) ≡ sets b u (contentsOf vs)
 
-pub record Rest (o₀ : Outcome Message Vals) (p₀ n₀ u₀ : ℕ) (l₀ b₀ : List ℕ) (o : Outcome Message Vals) (p n u : ℕ) (l b : List ℕ)
-    : Type 0 where
+pub record Rest (o₀ : Outcome Message Vals) (p₀ n₀ u₀ : ℕ) (l₀ b₀ : List ℕ) (o : Outcome Message Vals) (p n u : ℕ)
+    (l b : List ℕ) : Type 0 where
   pub stops : (k q : ℕ) → o ≡ refused k q → o₀ ≡ refused k q
   pub ends : (vs : Vals) (r : Message) → o ≡ got vs r → End o₀ p₀ n₀ u₀ l₀ b₀ vs r p n u l b
 
@@ -76,8 +78,8 @@ rest-start e = record {
 abbrev pub first : Outcome Message Val → (Message → Outcome Message Vals) → Outcome Message Vals
 first o k = next o λ v s. next (k s) λ vs s. got (value v vs) s
 
-module _ {o₀ : Outcome Message Vals} {p₀ n₀ u₀ : ℕ} {l₀ b₀ : List ℕ} {o : Outcome Message Vals} {p n u : ℕ} {l b : List ℕ}
-    (inv : Rest o₀ p₀ n₀ u₀ l₀ b₀ o p n u l b)
+module _ {o₀ : Outcome Message Vals} {p₀ n₀ u₀ : ℕ} {l₀ b₀ : List ℕ} {o : Outcome Message Vals} {p n u : ℕ}
+    {l b : List ℕ} (inv : Rest o₀ p₀ n₀ u₀ l₀ b₀ o p n u l b)
     {o₁ : Outcome Message Val} (k : Message → Outcome Message Vals) (e : o ≡ first o₁ k) where
   -- one value was read
   pub rest-turn : {msg : List ℕ} {l′ b′ : List ℕ} {d : Cursor} → Gone msg o₁ p n u l b l′ b′ d
@@ -107,13 +109,14 @@ module _ {o₀ : Outcome Message Vals} {p₀ n₀ u₀ : ℕ} {l₀ b₀ : List 
   rest-stop {x} {q} f = inv .stops x q (rw (e, f))
 
 -- ---- a group: its node, then its values
-module _ {D : Outcome Message Val} {o₀ : Outcome Message Vals} (k x : ℕ) (e : D ≡ next o₀ λ vs s. got (node k x [] vs) s) where
+module _ {D : Outcome Message Val} {o₀ : Outcome Message Vals} (k x : ℕ)
+    (e : D ≡ next o₀ λ vs s. got (node k x [] vs) s) where
   pub group-stop : {j q : ℕ} → o₀ ≡ refused j q → D ≡ refused j q
   unfolding next
   group-stop f = rw (e, f)
 
-  pub group-done : (msg : List ℕ) {p u : ℕ} (n : ℕ) (l : List ℕ) {b l₁ : List ℕ} {p₀ q m w : ℕ} {o : Outcome Message Vals}
-      {l′ b′ : List ℕ} {r : Read} → l₁ ≡ sets l (n * nodeWidth) (k ∷ x ∷ []) → p ≤ p₀
+  pub group-done : (msg : List ℕ) {p u : ℕ} (n : ℕ) (l : List ℕ) {b l₁ : List ℕ} {p₀ q m w : ℕ}
+      {o : Outcome Message Vals} {l′ b′ : List ℕ} {r : Read} → l₁ ≡ sets l (n * nodeWidth) (k ∷ x ∷ []) → p ≤ p₀
       → Rest o₀ p₀ (n + 1) u l₁ b o q m w l′ b′ → o ≡ got noValues (message (drop q msg) m) → q ≤ length msg
       → r ≡ Got (cursor q m w x) → Ran msg D p n u l b l′ b′ r
   unfolding next sizes contents nodes size numberOf
@@ -132,13 +135,13 @@ module _ {D : Outcome Message Val} {o₀ : Outcome Message Vals} (k x : ℕ) (e 
       })
 
 -- ---- a value alone in a value
-module _ {D : Outcome Message Val} {o : Outcome Message Val} (k x : ℕ) (e : D ≡ next o λ v s. got (node k x [] (only v)) s) where
+module _ {D o : Outcome Message Val} (k x : ℕ) (e : D ≡ next o λ v s. got (node k x [] (only v)) s) where
   pub alone-stop : {j q : ℕ} → o ≡ refused j q → D ≡ refused j q
   unfolding next
   alone-stop f = rw (e, f)
 
-  pub alone-done : {msg : List ℕ} {p u : ℕ} (n : ℕ) (l : List ℕ) {b l₁ : List ℕ} {p₀ : ℕ} {l′ b′ : List ℕ} {r : Read} {d : Cursor}
-      → l₁ ≡ sets l (n * nodeWidth) (k ∷ x ∷ []) → p ≤ p₀ → Gone msg o p₀ (n + 1) u l₁ b l′ b′ d
+  pub alone-done : {msg : List ℕ} {p u : ℕ} (n : ℕ) (l : List ℕ) {b l₁ : List ℕ} {p₀ : ℕ} {l′ b′ : List ℕ}
+      {r : Read} {d : Cursor} → l₁ ≡ sets l (n * nodeWidth) (k ∷ x ∷ []) → p ≤ p₀ → Gone msg o p₀ (n + 1) u l₁ b l′ b′ d
       → r ≡ Got (cursor (d .at) (d .count) (d .used) x) → Ran msg D p n u l b l′ b′ r
   unfolding next sizes contents nodes size numberOf
   alone-done n l s h g =

@@ -1,5 +1,6 @@
--- A SEQUENCE: its preamble, then its components, each with the presence bit that its mark gives it; one law for each way that its
--- reader returns. Premises are the callees' `ensures`. Assumes nothing.
+-- A SEQUENCE: its preamble, then its components, each with the presence bit that its mark gives it; one law for each
+-- return of its reader. Premises are the callees' `ensures`.
+-- Assumes nothing.
 use mathlib.Core.Path.{_≡_, refl, sym, ap, _∙_}
 use mathlib.Core.Bool.{Bool, true, false, not}
 use mathlib.Core.List.{List, [], _∷_}
@@ -16,7 +17,7 @@ use Rattle.x696.specs.OutcomeLaws.{cases}
 use Rattle.x696.specs.Digits.{digits, fromDigits, Below}
 use Rattle.x696.specs.Bits.{bitOctets, unusedBits, lowBitsClear, readPreamble}
 use Rattle.x696.specs.Value.{Val, node, Vals, noValues, nodeWidth}
-use Rattle.x696.specs.Types.{Ty, Items, itemCount, presenceCount, markCount}
+use Rattle.x696.specs.Types.{Ty, itemCount, presenceCount, markCount}
 use Rattle.x696.specs.Read.{Message, message, componentBy, readInside, readComponents, read, readComponent}
 use Rattle.x696.specs.Operations.{nodeLimit}
 use Rattle.x696.specs.Table.{rowKind, rowFirst, rowCount, componentRow, componentMark, componentDefault, itemsFrom}
@@ -32,7 +33,7 @@ use Rattle.kinds.specs.declared.cursor.Cursor.{Cursor}
 use Rattle.kinds.specs.declared.cursor.Read.{Read}
 use Rattle.kinds.specs.declared.cursor.Read.the-variants.{Got}
 use Rattle.kinds.proofs.Ran.{offset-is}
-use Rattle.reading.proofs.Groups.{Rest, first, rest-start, rest-turn, rest-stop, group-stop, group-done}
+use Rattle.reading.proofs.Groups.{Rest, first, rest-turn, rest-stop, group-stop, group-done}
 
 -- ---- the preamble of k presence bits
 unfoldable pub bitsAt : (msg : List ℕ) → (at k : ℕ) → List ℕ
@@ -49,7 +50,8 @@ module _ (msg : List ℕ) (at k : ℕ) (inside : at ≤ length msg) where
     unfolding readPreamble must
     preamble-padded f = next-got _ (run-there msg at (bitOctets k) at inside h) ∙ rw (← et, not-true t f)
 
-    pub preamble-got : not t ≡ false → readPreamble k at (drop at msg) ≡ got (bitsAt msg at k) (drop (at + bitOctets k) msg)
+    pub preamble-got : not t ≡ false
+        → readPreamble k at (drop at msg) ≡ got (bitsAt msg at k) (drop (at + bitOctets k) msg)
     unfolding readPreamble must bitsAt
     preamble-got f = next-got _ (run-there msg at (bitOctets k) at inside h) ∙ rw (← et, not-false t f)
 
@@ -107,8 +109,8 @@ marked-one (suc m) h = refl
 -- what is left of its components: i of them read, b bits used, the rest at p, with c nodes before it
 abbrev pub componentsLeft : (rows items msg : List ℕ) → (at g n k i b p c : ℕ) → Outcome Message Vals
 componentsLeft rows items msg at g n k i b p c =
-    readComponents nodeLimit (componentsFrom (λ j. typeOf rows items j) items (g + i) (n - i)) (drop b (bitsAt msg at k))
-    (length msg) (message (drop p msg) c)
+    readComponents nodeLimit (componentsFrom (λ j. typeOf rows items j) items (g + i) (n - i))
+    (drop b (bitsAt msg at k)) (length msg) (message (drop p msg) c)
 
 -- the presence bits of what is left
 abbrev pub marksLeft : (rows items : List ℕ) → (g n i : ℕ) → ℕ
@@ -117,7 +119,8 @@ marksLeft rows items g n i = markCount (componentsFrom (λ j. typeOf rows items 
 pub marks-start : (rows items : List ℕ) (g n k : ℕ) → ((f : ℕ → Ty) → k ≡ markCount (componentsFrom f items g n))
     → 0 + marksLeft rows items g n 0 ≡ k
 marks-start rows items g n k e =
-    let z : marksLeft rows items g n 0 ≡ k = rw (add-zero g, sub-zero n) (sym (e (λ j. typeOf rows items j))) in omega arith
+    let z : marksLeft rows items g n 0 ≡ k = rw (add-zero g, sub-zero n) (sym (e (λ j. typeOf rows items j))) in
+    omega arith
 
 module _ (rows items msg : List ℕ) (row at count : ℕ) (inside : at ≤ length msg)
     (sound : rowSound rows items row ≡ true) (is : rowKind rows row ≡ 10) (g n k : ℕ)
@@ -134,7 +137,8 @@ module _ (rows items msg : List ℕ) (row at count : ℕ) (inside : at ≤ lengt
       got (node 10 n [] vs) s
   unfolding insideAt readInside
   preamble-first =
-      rw (sequence-type rows items row sound is, offset-is msg at inside, ← eg, ← en, ← ek T, components-count T items g n)
+      let many = components-count T items g n in
+      rw (sequence-type rows items row sound is, offset-is msg at inside, ← eg, ← en, ← ek T, many)
 
   pub preamble-stops : {j q : ℕ} → readPreamble k at (drop at msg) ≡ refused j q → D ≡ refused j q
   preamble-stops f = preamble-first ∙ next-refused _ f
@@ -147,8 +151,10 @@ module _ (rows items msg : List ℕ) (row at count : ℕ) (inside : at ≤ lengt
     node-first = preamble-first ∙ next-got _ bits-got ∙ rw (add-zero g, sub-zero n, add-one count)
 
     module _ {u : ℕ} {l₀ b₀ l₁ b₁ : List ℕ} (i b p c : ℕ) {w : ℕ}
-        (inv : Rest (L 0 0 (at + bitOctets k) (count + 1)) (at + bitOctets k) (count + 1) u l₀ b₀ (L i b p c) p c w l₁ b₁) where
-      pub components-done : (l : List ℕ) {r : Read} → n ≤ i → p ≤ length msg → l₀ ≡ sets l (count * nodeWidth) (10 ∷ n ∷ [])
+        (inv : Rest (L 0 0 (at + bitOctets k) (count + 1)) (at + bitOctets k) (count + 1) u l₀ b₀
+        (L i b p c) p c w l₁ b₁) where
+      pub components-done : (l : List ℕ) {r : Read} → n ≤ i → p ≤ length msg
+          → l₀ ≡ sets l (count * nodeWidth) (10 ∷ n ∷ [])
           → r ≡ Got (cursor p c w n) → Ran msg D at count u l b₀ l₁ b₁ r
       components-done l h q s e =
           group-done 10 n node-first msg count l s (omega arith) inv
@@ -159,15 +165,16 @@ module _ (rows items msg : List ℕ) (row at count : ℕ) (inside : at ≤ lengt
         mark = componentMark items (g + i)
 
         abbrev Q : Outcome Message Val
-        Q = readComponent nodeLimit mark (componentDefault items (g + i)) (typeOf rows items (componentRow items (g + i)))
-            (bitAt msg at b) (length msg) (message (drop p msg) c)
+        Q = readComponent nodeLimit mark (componentDefault items (g + i))
+            (typeOf rows items (componentRow items (g + i))) (bitAt msg at b) (length msg) (message (drop p msg) c)
 
         abbrev later : Message → Outcome Message Vals
         later = λ s. readComponents nodeLimit (componentsFrom T items (g + (i + 1)) (n - (i + 1)))
             (drop (b + presenceCount mark) (bitsAt msg at k)) (length msg) s
 
-        same-bit : readComponent nodeLimit mark (componentDefault items (g + i)) (typeOf rows items (componentRow items (g + i)))
-            (getD (drop b (bitsAt msg at k)) 0 0) (length msg) (message (drop p msg) c) ≡ Q
+        same-bit : readComponent nodeLimit mark (componentDefault items (g + i))
+            (typeOf rows items (componentRow items (g + i))) (getD (drop b (bitsAt msg at k)) 0 0)
+            (length msg) (message (drop p msg) c) ≡ Q
         same-bit =
             cases-eq mark 0
             (λ e. plain-any mark _ _ _ _ _ _ e)
@@ -184,7 +191,8 @@ module _ (rows items msg : List ℕ) (row at count : ℕ) (inside : at ≤ lengt
         pub component-stops : {x q : ℕ} → Q ≡ refused x q → D ≡ refused x q
         component-stops f = group-stop 10 n node-first (rest-stop inv later one f)
 
-        pub component-goes : {l₂ b₂ : List ℕ} {d : Cursor} {o : ℕ} → o ≡ presenceCount mark → Gone msg Q p c w l₁ b₁ l₂ b₂ d
+        pub component-goes : {l₂ b₂ : List ℕ} {d : Cursor} {o : ℕ} → o ≡ presenceCount mark
+            → Gone msg Q p c w l₁ b₁ l₂ b₂ d
             → Rest (L 0 0 (at + bitOctets k) (count + 1)) (at + bitOctets k) (count + 1) u l₀ b₀
             (L (i + 1) (b + o) (d .at) (d .count)) (d .at) (d .count) (d .used) l₂ b₂
         component-goes e v = rw e (rest-turn inv later one v)

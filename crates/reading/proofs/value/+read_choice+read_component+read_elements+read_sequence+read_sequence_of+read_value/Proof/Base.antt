@@ -1,6 +1,6 @@
--- The cycle of readers: their measures, and what each relies on. A value's measure is three times its row and 2; that of
--- a SEQUENCE, a SEQUENCE OF and a CHOICE one less; that of a component and of elements three times the row that holds
--- them. An item names a smaller row, so that every call has a smaller measure.
+-- The cycle of readers: their measures, and what each relies on. A value's measure is three times its row and 2; that
+-- of a SEQUENCE, a SEQUENCE OF and a CHOICE one less; that of a component and of elements three times the row
+-- that holds them. An item names a smaller row, so that every call has a smaller measure.
 -- Assumes nothing.
 use Prim.Native.Nat.{ℕ, _+_, _*_, _<_}
 use borrow.Fn.Kinds.{In}

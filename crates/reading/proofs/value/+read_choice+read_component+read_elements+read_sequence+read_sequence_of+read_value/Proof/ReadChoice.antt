@@ -45,7 +45,8 @@ refuse-requires t c κs = search needs
 
 pub returns : (t : ℕ) → lts.Need-returns (calls t) (here t) Post
 returns t c =
-    let c4 = c .before .before .before .before in
+    let c2 = c .before .before in
+    let c4 = c2 .before .before in
     let c6 = c4 .before .before in
     let c7 = c6 .before in
     let c8 = c7 .before in
@@ -53,7 +54,7 @@ returns t c =
     let sound = start .pre .1 .0 .row (start .args .row) (start .pre .1 .1) in
     Ran.ran-refused (Alternatives.tag-unknown _ _ _ _ _ _ (start .pre .1 .2) sound (start .pre .1 .5)
     (c6 .read-tag .ensures) _ _ _ _ (c4 .g .given .1) (c8 .row-first .ensures) (c7 .row-count .ensures)
-    (c .before .before .find-tag .ensures .0) (c .before .if1 .taken)) (c .refuse .ensures)
+    (c2 .find-tag .ensures .0) (c .before .if1 .taken)) (c .refuse .ensures)
 
 pub put-node-requires : (t : ℕ) → lts.Need-put-node-requires (calls t) (here t) Post
 put-node-requires t c κs = search needs
@@ -82,7 +83,8 @@ add-read-value t c = search needs
 
 pub read-value-requires : (t : ℕ) → lts.Need-read-value-requires (calls t) (here t) Post
 read-value-requires t c κs =
-    let c7 = c .before .before .before .before .before .before .before in
+    let c2 = c .before .before in
+    let c7 = c2 .before .before .before .before .before in
     let c8 = c7 .before in
     let c10 = c8 .before .before in
     let c12 = c10 .before .before in
@@ -92,8 +94,7 @@ read-value-requires t c κs =
     let sound = start .pre .1 .0 .row (start .args .row) (start .pre .1 .1) in
     let row = choice-row _ _ _ sound (start .pre .1 .5) in
     let y = c12 .read-tag .ensures .went _ (c10 .g .given .1) in
-    let lt : c .before .before .alternative-row .result < start .args .row =
-    rw (c .before .before .alternative-row .ensures, c14 .row-first .ensures)
+    let lt : c2 .alternative-row .result < start .args .row = rw (c2 .alternative-row .ensures, c14 .row-first .ensures)
     (row .alternative (c8 .find-tag .result) (rw (← c13 .row-count .ensures) (c7 .if1 .left)) .lower) in (
       omega arith,
       (
@@ -153,7 +154,8 @@ same-length-4 t c = search needs
 
 pub returns-4 : (t : ℕ) → lts.Need-returns-4 (calls t) (here t) Post
 returns-4 t c =
-    let c8 = c .before .before .before .before .before .before .before .before in
+    let c2 = c .before .before in
+    let c8 = c2 .before .before .before .before .before .before in
     let c11 = c8 .before .before .before in
     let c14 = c11 .before .before .before in
     let c16 = c14 .before .before in
@@ -166,5 +168,5 @@ returns-4 t c =
     let sound = start .pre .1 .0 .row (start .args .row) (start .pre .1 .1) in
     Alternatives.chosen-goes _ _ _ _ _ _ (start .pre .1 .2) sound (start .pre .1 .5) (c21 .read-tag .ensures) _ _ _ _
     (c19 .g .given .1) (c23 .row-first .ensures) (c22 .row-count .ensures) (c17 .find-tag .ensures .0) (c16 .if1 .left)
-    (c11 .alternative-row .ensures) _ (c14 .put-node .ensures)
-    (c8 .read-value .ensures .went _ (c .before .before .d .given .1)) (c .got .ensures)
+    (c11 .alternative-row .ensures) _ (c14 .put-node .ensures) (c8 .read-value .ensures .went _ (c2 .d .given .1))
+    (c .got .ensures)

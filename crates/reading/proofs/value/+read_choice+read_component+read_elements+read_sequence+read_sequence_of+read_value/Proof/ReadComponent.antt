@@ -64,7 +64,8 @@ same-length-3 t c = search needs
 
 pub returns-2 : (t : ℕ) → lts.Need-returns-2 (calls t) (here t) Post
 returns-2 t c =
-    let c4 = c .before .before .before .before in
+    let c2 = c .before .before in
+    let c4 = c2 .before .before in
     let c5 = c4 .before in
     let c6 = c5 .before in
     let c7 = c6 .before in
@@ -74,7 +75,7 @@ returns-2 t c =
     let start = c10 .before .before .before .before .before .before in
     Ran.ran-by (Components.component-absent _ _ _ _ _ _ _ _ _ (start .pre .1 .2) (start .pre .1 .5) _
     (c10 .component-row .ensures) _ (c9 .component-mark .ensures) (c8 .if1 .left) _ (c7 .component-default .ensures) _
-    (c6 .is-present .ensures) (c5 .if2 .taken) (c4 .if3 .taken)) (c .before .before .read-missing .ensures _)
+    (c6 .is-present .ensures) (c5 .if2 .taken) (c4 .if3 .taken)) (c2 .read-missing .ensures _)
 
 pub row-kind-requires : (t : ℕ) → lts.Need-row-kind-requires (calls t) (here t) Post
 row-kind-requires t c κs =
@@ -91,7 +92,8 @@ same-length-4 t c = search needs
 
 pub returns-3 : (t : ℕ) → lts.Need-returns-3 (calls t) (here t) Post
 returns-3 t c =
-    let c4 = c .before .before .before .before in
+    let c2 = c .before .before in
+    let c4 = c2 .before .before in
     let c5 = c4 .before in
     let c6 = c5 .before in
     let c7 = c6 .before in
@@ -102,8 +104,7 @@ returns-3 t c =
     let start = c11 .before .before .before .before .before .before in
     Ran.ran-by (Components.component-default _ _ _ _ _ _ _ _ _ (start .pre .1 .2) (start .pre .1 .5) _
     (c11 .component-row .ensures) _ (c10 .component-mark .ensures) (c9 .if1 .left) _ (c8 .component-default .ensures) _
-    (c7 .is-present .ensures) (c6 .if2 .taken) (c5 .if3 .left) _ (c4 .row-kind .ensures))
-    (c .before .before .read-missing2 .ensures _)
+    (c7 .is-present .ensures) (c6 .if2 .taken) (c5 .if3 .left) _ (c4 .row-kind .ensures)) (c2 .read-missing2 .ensures _)
 
 pub read-value-requires-2 : (t : ℕ) → lts.Need-read-value-requires-2 (calls t) (here t) Post
 read-value-requires-2 t c κs =
@@ -158,7 +159,8 @@ same-length-8 t c = search needs
 
 pub returns-5 : (t : ℕ) → lts.Need-returns-5 (calls t) (here t) Post
 returns-5 t c =
-    let c8 = c .before .before .before .before .before .before .before .before in
+    let c2 = c .before .before in
+    let c8 = c2 .before .before .before .before .before .before in
     let c11 = c8 .before .before .before in
     let c12 = c11 .before in
     let c13 = c12 .before in
@@ -170,5 +172,4 @@ returns-5 t c =
     let below = below-known 8 (start .args .msg .now) (λ i. c19 .shared-slice-known3 .given i .fits) in
     Components.carried-goes _ _ _ _ _ _ _ _ _ (start .pre .1 .2) (start .pre .1 .5) _ (c16 .component-row .ensures) _
     (c15 .component-mark .ensures) (c14 .if1 .left) _ (c13 .component-default .ensures) _ (c12 .is-present .ensures)
-    (c11 .if2 .left) (c8 .read-value2 .ensures .went _ (c .before .before .c .given .1)) below
-    (c .check-default .ensures)
+    (c11 .if2 .left) (c8 .read-value2 .ensures .went _ (c2 .c .given .1)) below (c .check-default .ensures)

@@ -106,6 +106,7 @@ same-length-4 t c = search needs
 
 pub returns-2 : (t : ℕ) → lts.Need-returns-2 (calls t) (here t) Post Inv-loop μ-loop
 returns-2 t c =
-    let c5 = c .before .before .before .before .before in
-    Elements.elements-done _ _ _ _ _ (c .before .before .loop .inv .3 .2) _ (c .before .loop-test .left)
-    (c .before .before .loop .inv .3 .0) (c5 .put-node .ensures) (c .got .ensures)
+    let c2 = c .before .before in
+    let c5 = c2 .before .before .before in
+    Elements.elements-done _ _ _ _ _ (c2 .loop .inv .3 .2) _ (c .before .loop-test .left) (c2 .loop .inv .3 .0)
+    (c5 .put-node .ensures) (c .got .ensures)

@@ -79,12 +79,13 @@ same-length t c = search needs
 
 pub returns : (t : ℕ) → lts.Need-returns (calls t) (here t) Post Inv-loop μ-loop
 returns t c =
-    let c7 = c .before .before .before .before .before .before .before in
+    let c2 = c .before .before in
+    let c7 = c2 .before .before .before .before .before in
     let c8 = c7 .before in
     let start = c8 .before .before .before .before .before .before in
     let sound = start .pre .1 .0 .row (start .args .row) (start .pre .1 .1) in
     Ran.ran-refused (Sequences.preamble-stops _ _ _ _ _ _ (start .pre .1 .2) sound (start .pre .1 .5) _ _ _
-    (c8 .row-first .ensures) (c7 .row-count .ensures) (c .before .before .count-marked .ensures .0)
+    (c8 .row-first .ensures) (c7 .row-count .ensures) (c2 .count-marked .ensures .0)
     (Sequences.preamble-short _ _ _ (start .pre .1 .2) (c .before .if1 .taken))) (c .refuse .ensures)
 
 pub is-padded-requires : (t : ℕ) → lts.Need-is-padded-requires (calls t) (here t) Post Inv-loop μ-loop
@@ -113,7 +114,8 @@ same-length-2 t c = search needs
 
 pub returns-2 : (t : ℕ) → lts.Need-returns-2 (calls t) (here t) Post Inv-loop μ-loop
 returns-2 t c =
-    let c3 = c .before .before .before in
+    let c2 = c .before .before in
+    let c3 = c2 .before in
     let c4 = c3 .before in
     let c9 = c4 .before .before .before .before .before in
     let c10 = c9 .before in
@@ -121,7 +123,7 @@ returns-2 t c =
     let sound = start .pre .1 .0 .row (start .args .row) (start .pre .1 .1) in
     Ran.ran-refused (Sequences.preamble-stops _ _ _ _ _ _ (start .pre .1 .2) sound (start .pre .1 .5) _ _ _
     (c10 .row-first .ensures) (c9 .row-count .ensures) (c4 .count-marked .ensures .0)
-    (Sequences.preamble-padded _ _ _ (start .pre .1 .2) (c3 .if1 .left) _ (c .before .before .is-padded .ensures)
+    (Sequences.preamble-padded _ _ _ (start .pre .1 .2) (c3 .if1 .left) _ (c2 .is-padded .ensures)
     (c .before .if2 .taken))) (c .refuse2 .ensures)
 
 pub add-p : (t : ℕ) → lts.Need-add-p (calls t) (here t) Post Inv-loop μ-loop
@@ -149,13 +151,14 @@ add-c t c = search needs
 
 pub loop-holds : (t : ℕ) → lts.Need-loop-holds (calls t) (here t) Post Inv-loop μ-loop
 loop-holds t c =
-    let c3 = c .before .before .before in
+    let c2 = c .before .before in
+    let c3 = c2 .before in
     let start = c3 .before .before .before .before .before .before .before .before .before .before .before .before in (
       search needs,
       refl,
       refl,
       (
-        omega (arith, start .pre .1 .2, c .before .before .if1 .left),
+        omega (arith, start .pre .1 .2, c2 .if1 .left),
         omega (arith, start .pre .1 .3),
         omega arith,
         Sequences.marks-start _ _ _ _ _ (c3 .count-marked .ensures .0),
@@ -181,21 +184,22 @@ add-read-component t c =
 
 pub read-component-requires : (t : ℕ) → lts.Need-read-component-requires (calls t) (here t) Post Inv-loop μ-loop
 read-component-requires t c κs =
-    let c3 = c .before .before .before in
+    let c2 = c .before .before in
+    let c3 = c2 .before in
     let c12 = c3 .before .before .before .before .before .before .before .before .before in
     let c13 = c12 .before in
     let start = c13 .before .before .before .before .before .before in
     let sound = start .pre .1 .0 .row (start .args .row) (start .pre .1 .1) in
-    let row = sequence-row _ _ _ sound (start .pre .1 .5) in (
+    let row = sequence-row _ _ _ sound (start .pre .1 .5) in
+    let one = row .component (c3 .loop .i) (rw (← c12 .row-count .ensures) (c2 .loop-test .taken)) in (
       omega arith,
       (
         start .pre .1 .0,
         start .pre .1 .1,
         c3 .loop .inv .3 .0,
         c3 .loop .inv .3 .1,
-        omega (arith, row .range, c13 .row-first .ensures, c12 .row-count .ensures, c .before .before .loop-test .taken),
-        rw (c13 .row-first .ensures) (row .component (c3 .loop .i)
-            (rw (← c12 .row-count .ensures) (c .before .before .loop-test .taken))),
+        omega (arith, row .range, c13 .row-first .ensures, c12 .row-count .ensures, c2 .loop-test .taken),
+        rw (c13 .row-first .ensures) one,
         start .pre .1 .2,
         omega (
           arith,
@@ -204,7 +208,7 @@ read-component-requires t c κs =
           start .pre .1 .0 .fewItems,
           c13 .row-first .ensures,
           c12 .row-count .ensures,
-          c .before .before .loop-test .taken,
+          c2 .loop-test .taken,
         ),
         start .pre .1 .6,
       ),
@@ -301,7 +305,8 @@ loop-again t c = (
   search needs,
   search needs,
   search needs,
-  let c8 = c .before .before .before .before .before .before .before .before in
+  let c2 = c .before .before in
+      let c8 = c2 .before .before .before .before .before .before in
       let c11 = c8 .before .before .before in
       let c12 = c11 .before in
       let c13 = c12 .before in
@@ -314,7 +319,7 @@ loop-again t c = (
       let start = c25 .before .before .before in
       let sound = start .pre .1 .0 .row (start .args .row) (start .pre .1 .1) in
       let below = below-known 8 (start .args .msg .now) (λ i. c25 .shared-slice-known3 .given i .fits) in
-      let g = c8 .read-component .ensures .went _ (c .before .before .next .given .1) in (
+      let g = c8 .read-component .ensures .went _ (c2 .next .given .1) in (
         g .inside,
         omega (arith, g .used, g .ahead, c12 .loop .inv .3 .1),
         omega (arith, c12 .loop .inv .3 .2, c .is-marked .ensures .1),
@@ -345,7 +350,8 @@ same-length-6 t c = search needs
 
 pub returns-4 : (t : ℕ) → lts.Need-returns-4 (calls t) (here t) Post Inv-loop μ-loop
 returns-4 t c =
-    let c3 = c .before .before .before in
+    let c2 = c .before .before in
+    let c3 = c2 .before in
     let c4 = c3 .before in
     let c5 = c4 .before in
     let c6 = c5 .before in
@@ -357,5 +363,5 @@ returns-4 t c =
     Sequences.components-done _ _ _ _ _ _ (start .pre .1 .2) sound (start .pre .1 .5) _ _ _ (c12 .row-first .ensures)
     (c11 .row-count .ensures) (c6 .count-marked .ensures .0)
     (Sequences.preamble-got _ _ _ (start .pre .1 .2) (c5 .if1 .left) _ (c4 .is-padded .ensures) (c3 .if2 .left)) _
-    (c .before .before .loop .b) _ _ (c .before .before .loop .inv .3 .4) _ (c .before .loop-test .left)
-    (c .before .before .loop .inv .3 .0) (c9 .put-node .ensures) (c .got .ensures)
+    (c2 .loop .b) _ _ (c2 .loop .inv .3 .4) _ (c .before .loop-test .left) (c2 .loop .inv .3 .0) (c9 .put-node .ensures)
+    (c .got .ensures)

@@ -57,7 +57,8 @@ returns-2 t c =
 
 pub read-sequence-requires : (t : ℕ) → lts.Need-read-sequence-requires (calls t) (here t) Post
 read-sequence-requires t c κs =
-    let c4 = c .before .before .before .before in
+    let c2 = c .before .before in
+    let c4 = c2 .before .before in
     let c5 = c4 .before in
     let start = c5 .before .before .before .before .before .before in (
       omega arith,
@@ -68,7 +69,7 @@ read-sequence-requires t c κs =
         start .pre .1 .3,
         c5 .if1 .left,
         sym
-            (c4 .row-kind .ensures) ∙ c .before .before .if3 .taken,
+            (c4 .row-kind .ensures) ∙ c2 .if3 .taken,
         start .pre .1 .4,
       ),
     )
@@ -87,7 +88,8 @@ returns-3 t c =
 
 pub read-sequence-of-requires : (t : ℕ) → lts.Need-read-sequence-of-requires (calls t) (here t) Post
 read-sequence-of-requires t c κs =
-    let c5 = c .before .before .before .before .before in
+    let c2 = c .before .before in
+    let c5 = c2 .before .before .before in
     let c6 = c5 .before in
     let start = c6 .before .before .before .before .before .before in (
       omega arith,
@@ -98,7 +100,7 @@ read-sequence-of-requires t c κs =
         start .pre .1 .3,
         c6 .if1 .left,
         sym
-            (c5 .row-kind .ensures) ∙ c .before .before .if4 .taken,
+            (c5 .row-kind .ensures) ∙ c2 .if4 .taken,
         start .pre .1 .4,
       ),
     )
