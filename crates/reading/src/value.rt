@@ -225,7 +225,7 @@ fn read_elements(
     let mut p = start;
     let mut c = count + 1;
     let mut u = used;
-    let mut i = 0;
+    let mut i = 0; // elements read
     while i < n {
         match read_value(rows, items, inner, msg, p, c, u, nodes, contents) {
             Read::Got(next) => {
