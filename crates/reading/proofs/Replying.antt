@@ -18,7 +18,8 @@ use Rattle.x696.specs.Read.{Message, message, offset, read}
 use Rattle.x696.specs.Reply.{Answer, refusal, done, refusalReply, doneReply, then, answer, unless, inPart}
 use Rattle.x696.specs.Table.{rowWidth, typeOf}
 use Rattle.x696.specs.TableFault.{TableFault as Meant, sound, badSize, badRow, tableFault}
-use Rattle.x696.specs.Operations.{nodeLimit, octetLimit, usable, asked, readMessage, valueIn, validate, over, Decoded, decodable, decode}
+use Rattle.x696.specs.Operations.{nodeLimit, octetLimit, usable, asked, readMessage, valueIn, validate, over, Decoded}
+use Rattle.x696.specs.Operations.{decodable, decode}
 use Rattle.table.specs.Replies.{asReply}
 use Rattle.table.specs.Judged.{asFault}
 use Rattle.table.specs.declared.reply.Reply.{Reply}
@@ -59,7 +60,8 @@ no-fault badSize e = zero-one cc
 no-fault (badRow k) e = zero-one cc
 
 module _ (rows items : List ℕ) (row : ℕ) {f : TableFault} (ef : f ≡ asFault (tableFault rows items)) {x : Reply} where
-  stop : {n q p : ℕ} → asked rows items row ≡ refusal n q p → x ≡ asReply (refusalReply n q p) → AskedAnswer rows items row (NotAsked x)
+  stop : {n q p : ℕ} → asked rows items row ≡ refusal n q p → x ≡ asReply (refusalReply n q p)
+      → AskedAnswer rows items row (NotAsked x)
   stop {n} {q} {p} e h = record {
     ready = λ z. zero-one cc;
     stopped = λ y z. let w : x ≡ y = cc in record { number = n; part = q; place = p; is = e; reply = sym w ∙ h };
@@ -79,7 +81,8 @@ module _ (rows items : List ℕ) (row : ℕ) {f : TableFault} (ef : f ≡ asFaul
     asked-none h g =
         stop (rw (no-fault (tableFault rows items) (sym ef ∙ e), le-ltb row (length rows / rowWidth) (omega arith))) g
 
-pub asked-there : (rows items : List ℕ) (row : ℕ) {f : TableFault} → f ≡ asFault (tableFault rows items) → f ≡ Sound → {n : ℕ}
+pub asked-there : (rows items : List ℕ) (row : ℕ) {f : TableFault} → f ≡ asFault (tableFault rows items) → f ≡ Sound
+    → {n : ℕ}
     → n ≡ length rows / rowWidth → row < n → AskedAnswer rows items row Ready
 unfolding asked usable unless
 asked-there rows items row ef e en h =
@@ -89,7 +92,8 @@ asked-there rows items row ef e en h =
 
 -- ---- a value, or a refusal
 module _ {a : Answer Val} where
-  pub value-stop : {n q p : ℕ} {x : Reply} → a ≡ refusal n q p → x ≡ asReply (refusalReply n q p) → ValueAnswer a (Lacks x)
+  pub value-stop : {n q p : ℕ} {x : Reply} → a ≡ refusal n q p → x ≡ asReply (refusalReply n q p)
+      → ValueAnswer a (Lacks x)
   value-stop {n} {q} {p} {x} e h = record {
     went = λ c z. zero-one cc;
     stopped = λ y z. let w : x ≡ y = cc in record { number = n; part = q; place = p; is = e; reply = sym w ∙ h };
@@ -132,7 +136,8 @@ module _ (t : Ty) (msg : List ℕ) where
           let some : length (drop (c .at) msg) ≡ 0 → ⊥ = λ z. omega (arith, z, length-drop (c .at) msg) in
           rw (le-leb (length msg) octetLimit short, g .reads, ne-eqb (length (drop (c .at) msg)) 0 some, offset-is msg (c .at) (g .inside))
 
-      pub message-done : length msg ≤ c .at → Handed (inPart 1 (readMessage t msg)) (record { nodes = c .count; octets = c .used })
+      pub message-done : length msg ≤ c .at
+          → Handed (inPart 1 (readMessage t msg)) (record { nodes = c .count; octets = c .used })
       unfolding inPart readMessage must next
       message-done h = record {
         what = g .what;
@@ -148,7 +153,8 @@ unfolding then
 then-inv (refusal n q p) k e f = zero-one cc
 then-inv (done x) k e f = f x refl e
 
-part-inv : {S A : Type 0} (q : ℕ) (o : Outcome S A) {a : A} {X : Type 0} → inPart q o ≡ done a → ((s : S) → o ≡ got a s → X) → X
+part-inv : {S A : Type 0} (q : ℕ) (o : Outcome S A) {a : A} {X : Type 0} → inPart q o ≡ done a → ((s : S)
+    → o ≡ got a s → X) → X
 unfolding inPart
 part-inv q (refused n p) e f = zero-one cc
 part-inv q (got x s) {a} e f = let w : x ≡ a = cc in f s (rw w)
@@ -164,7 +170,8 @@ record Usable (rows items : List ℕ) (row : ℕ) (t : Ty) : Type 0 where
   inside : row < length rows / rowWidth
   type : t ≡ typeOf rows items row
 
-usable-inv : (x : Meant) (rows items : List ℕ) (row : ℕ) {t : Ty} → x ≡ tableFault rows items → usable x rows items row ≡ done t
+usable-inv : (x : Meant) (rows items : List ℕ) (row : ℕ) {t : Ty} → x ≡ tableFault rows items
+    → usable x rows items row ≡ done t
     → Usable rows items row t
 unfolding usable
 usable-inv badSize rows items row e h = zero-one cc
@@ -179,7 +186,8 @@ pub record Known (rows items : List ℕ) (row : ℕ) (msg : List ℕ) (v : Val) 
   pub rest : Message
   pub reads : read nodeLimit (typeOf rows items row) (length msg) (message msg 0) ≡ got v rest
 
-pub value-known : (rows items : List ℕ) (row : ℕ) (msg : List ℕ) {v : Val} → valueIn rows items row msg ≡ done v → Known rows items row msg v
+pub value-known : (rows items : List ℕ) (row : ℕ) (msg : List ℕ) {v : Val} → valueIn rows items row msg ≡ done v
+    → Known rows items row msg v
 unfolding valueIn asked readMessage
 value-known rows items row msg {v} e =
     then-inv _ _ e λ t was then.
@@ -219,7 +227,8 @@ module _ (rows items : List ℕ) (row : ℕ) (msg : List ℕ) where
     abbrev decoding : Decoded
     decoding = decode rows items row msg ns cs
 
-    decode-no : {n q p : ℕ} {x : Reply} → decodable rows items row msg ns cs ≡ refusal n q p → x ≡ asReply (refusalReply n q p)
+    decode-no : {n q p : ℕ} {x : Reply} → decodable rows items row msg ns cs ≡ refusal n q p
+        → x ≡ asReply (refusalReply n q p)
         → Decodes decoding ns cs x
     unfolding decode answer
     decode-no e h = rw e (record { reply = h; listed = refl; copied = refl })
@@ -229,12 +238,14 @@ module _ (rows items : List ℕ) (row : ℕ) (msg : List ℕ) where
     decode-stop r = decode-no (rw (r .is)) (r .reply)
 
     module _ {c : Counts} (h : Handed valued c) where
-      pub decode-nodes : length ns / 2 < c .nodes → {x : Reply} → x ≡ asReply (refusalReply 12 4 0) → Decodes decoding ns cs x
+      pub decode-nodes : length ns / 2 < c .nodes → {x : Reply} → x ≡ asReply (refusalReply 12 4 0)
+          → Decodes decoding ns cs x
       unfolding decodable then unless
       decode-nodes l e = decode-no (rw (h .is, lt-leb (size (h .what) * nodeWidth) (length ns) (omega (arith, h .nodes)))) e
 
       module _ (room : c .nodes ≤ length ns / 2) where
-        pub decode-contents : length cs < c .octets → {x : Reply} → x ≡ asReply (refusalReply 12 4 0) → Decodes decoding ns cs x
+        pub decode-contents : length cs < c .octets → {x : Reply} → x ≡ asReply (refusalReply 12 4 0)
+            → Decodes decoding ns cs x
         unfolding decodable then unless
         decode-contents l e =
             decode-no

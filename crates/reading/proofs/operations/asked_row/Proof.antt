@@ -31,16 +31,25 @@ refusal-requires-3 : tie.Need-refusal-requires-3
 refusal-requires-3 c κs = search needs
 
 returns : tie.Need-returns
-returns c = asked-none _ _ _ (c .before .before .before .before .before .fault-of .ensures) (c .before .before .before .enum-told2 .given .1) (c .before .before .rows-in .ensures) (c .before .if1 .taken) (c .refusal3 .ensures)
+returns c =
+    asked-none _ _ _ (c .before .before .before .before .before .fault-of .ensures)
+    (c .before .before .before .enum-told2 .given .1) (c .before .before .rows-in .ensures) (c .before .if1 .taken)
+    (c .refusal3 .ensures)
 
 returns-2 : tie.Need-returns-2
-returns-2 c = asked-size _ _ _ (c .before .before .before .fault-of .ensures) (c .before .enum-told .given .1) (c .refusal .ensures)
+returns-2 c =
+    asked-size _ _ _ (c .before .before .before .fault-of .ensures) (c .before .enum-told .given .1)
+    (c .refusal .ensures)
 
 returns-3 : tie.Need-returns-3
-returns-3 c = asked-bad _ _ _ (c .before .before .before .before .fault-of .ensures) (c .before .before .k .given .1) (c .refusal2 .ensures)
+returns-3 c =
+    asked-bad _ _ _ (c .before .before .before .before .fault-of .ensures) (c .before .before .k .given .1)
+    (c .refusal2 .ensures)
 
 returns-4 : tie.Need-returns-4
-returns-4 c = asked-there _ _ _ (c .before .before .before .before .fault-of .ensures) (c .before .before .enum-told2 .given .1) (c .before .rows-in .ensures) (omega arith)
+returns-4 c =
+    asked-there _ _ _ (c .before .before .before .before .fault-of .ensures) (c .before .before .enum-told2 .given .1)
+    (c .before .rows-in .ensures) (omega arith)
 
 pub asked-row-spec : {M : Type 1} → statement M
 asked-row-spec =

@@ -20,16 +20,26 @@ refusal-requires : tie.Need-refusal-requires
 refusal-requires c κs = search needs
 
 returns : tie.Need-returns
-returns c = decode-nodes _ _ _ _ _ _ ((c .before .before .before .before .before .survey .ensures .went) _ (c .before .before .before .c .given .1)) (c .before .if1 .taken) (c .refusal .ensures)
+returns c =
+    decode-nodes _ _ _ _ _ _
+    ((c .before .before .before .before .before .survey .ensures .went) _ (c .before .before .before .c .given .1))
+    (c .before .if1 .taken) (c .refusal .ensures)
 
 refusal-requires-2 : tie.Need-refusal-requires-2
 refusal-requires-2 c κs = search needs
 
 returns-2 : tie.Need-returns-2
-returns-2 c = decode-contents _ _ _ _ _ _ ((c .before .before .before .before .before .before .survey .ensures .went) _ (c .before .before .before .before .c .given .1)) (omega arith) (c .before .if2 .taken) (c .refusal2 .ensures)
+returns-2 c =
+    decode-contents _ _ _ _ _ _
+    ((c .before .before .before .before .before .before .survey .ensures .went) _ (c .before .before .before .before .c .given .1))
+    (omega arith) (c .before .if2 .taken) (c .refusal2 .ensures)
 
 read-value-requires : tie.Need-read-value-requires
-read-value-requires c κs = let k = value-known _ _ _ _ ((c .before .before .before .before .before .before .before .survey .ensures .went) _ (c .before .before .before .before .before .c .given .1) .is) in (sound-table _ _ .0 (k .fault), k .inside, omega arith, omega arith, k .short)
+read-value-requires c κs =
+    let k = value-known _ _ _ _
+    ((c .before .before .before .before .before .before .before .survey .ensures .went) _ (c .before .before .before .before .before .c .given .1) .is)
+    in
+    (sound-table _ _ .0 (k .fault), k .inside, omega arith, omega arith, k .short)
 
 done-requires : tie.Need-done-requires
 done-requires c κs = search needs
@@ -44,7 +54,10 @@ same-length-2 : tie.Need-same-length-2
 same-length-2 c = search needs
 
 returns-4 : tie.Need-returns-4
-returns-4 c = decode-done _ _ _ _ _ _ ((c .before .before .before .before .before .before .before .before .before .before .before .before .before .survey .ensures .went) _ (c .before .before .before .before .before .before .before .before .before .before .before .c .given .1)) (omega arith) (omega arith) _ (c .before .before .before .before .before .read-value .ensures) (c .done .ensures)
+returns-4 c =
+    decode-done _ _ _ _ _ _
+    ((c .before .before .before .before .before .before .before .before .before .before .before .before .before .survey .ensures .went) _ (c .before .before .before .before .before .before .before .before .before .before .before .c .given .1))
+    (omega arith) (omega arith) _ (c .before .before .before .before .before .read-value .ensures) (c .done .ensures)
 
 pub decode-spec : {M : Type 1} → statement M
 decode-spec =

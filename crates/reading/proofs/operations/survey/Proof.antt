@@ -16,13 +16,16 @@ enum-told : tie.Need-enum-told
 enum-told c = search needs
 
 survey-message-requires : tie.Need-survey-message-requires
-survey-message-requires c κs = (sound-table _ _ .0 ((c .before .before .asked-row .ensures .ready) (c .enum-told .given .1) .0), (c .before .before .asked-row .ensures .ready) (c .enum-told .given .1) .1)
+survey-message-requires c κs =
+    (sound-table _ _ .0 ((c .before .before .asked-row .ensures .ready) (c .enum-told .given .1) .0), (c .before .before .asked-row .ensures .ready) (c .enum-told .given .1) .1)
 
 returns : tie.Need-returns
 returns c = valued-stop _ _ _ _ ((c .before .before .before .asked-row .ensures .stopped) _ (c .before .r .given .1))
 
 returns-2 : tie.Need-returns-2
-returns-2 c = valued-by _ _ _ _ ((c .before .before .before .asked-row .ensures .ready) (c .before .enum-told .given .1) .2) (c .survey-message .ensures)
+returns-2 c =
+    valued-by _ _ _ _ ((c .before .before .before .asked-row .ensures .ready) (c .before .enum-told .given .1) .2)
+    (c .survey-message .ensures)
 
 pub survey-spec : {M : Type 1} → statement M
 survey-spec =

@@ -1,7 +1,8 @@
 -- The message is measured, read with nothing lent, and its end compared.
 -- Assumes nothing.
 use native.Mathlib.Omega.{arith}
-use Rattle.reading.proofs.Replying.{value-stop, value-got, message-long, message-fault, message-left, message-done}
+use Rattle.reading.proofs.Replying.{value-stop, value-got, message-long, message-fault, message-left}
+use Rattle.reading.proofs.Replying.{message-done}
 use borrow.Author.Needs.{needs}
 use Rattle.reading.proofs.operations.survey_message.Statement.{statement}
 use Rattle.reading.proofs.operations.survey_message.Tie as tie
@@ -40,13 +41,21 @@ refusal-requires-3 : tie.Need-refusal-requires-3
 refusal-requires-3 c κs = search needs
 
 returns-2 : tie.Need-returns-2
-returns-2 c = value-stop (message-left _ _ (omega arith) ((c .before .before .before .before .before .before .before .read-value .ensures .went) _ (c .before .before .before .c .given .1)) (c .before .if2 .taken)) (c .refusal3 .ensures)
+returns-2 c =
+    value-stop
+    (message-left _ _ (omega arith) ((c .before .before .before .before .before .before .before .read-value .ensures .went) _ (c .before .before .before .c .given .1)) (c .before .if2 .taken))
+    (c .refusal3 .ensures)
 
 returns-3 : tie.Need-returns-3
-returns-3 c = value-stop (message-fault _ _ (omega arith) ((c .before .before .before .before .before .before .read-value .ensures .stopped) _ (c .before .before .f .given .1))) (c .refusal2 .ensures)
+returns-3 c =
+    value-stop
+    (message-fault _ _ (omega arith) ((c .before .before .before .before .before .before .read-value .ensures .stopped) _ (c .before .before .f .given .1)))
+    (c .refusal2 .ensures)
 
 returns-4 : tie.Need-returns-4
-returns-4 c = value-got (message-done _ _ (omega arith) ((c .before .before .before .before .before .before .read-value .ensures .went) _ (c .before .before .c .given .1)) (omega arith))
+returns-4 c =
+    value-got
+    (message-done _ _ (omega arith) ((c .before .before .before .before .before .before .read-value .ensures .went) _ (c .before .before .c .given .1)) (omega arith))
 
 pub survey-message-spec : {M : Type 1} → statement M
 survey-message-spec =

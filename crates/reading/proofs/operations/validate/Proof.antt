@@ -21,7 +21,9 @@ returns : tie.Need-returns
 returns c = valid-stop _ _ _ _ ((c .before .before .before .survey .ensures .stopped) _ (c .before .r .given .1))
 
 returns-2 : tie.Need-returns-2
-returns-2 c = valid-done _ _ _ _ ((c .before .before .before .before .survey .ensures .went) _ (c .before .before .c .given .1)) (c .done .ensures)
+returns-2 c =
+    valid-done _ _ _ _ ((c .before .before .before .before .survey .ensures .went) _ (c .before .before .c .given .1))
+    (c .done .ensures)
 
 pub validate-spec : {M : Type 1} → statement M
 validate-spec =
