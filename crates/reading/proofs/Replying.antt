@@ -1,20 +1,19 @@
 -- Replies of validation and decoding: what the code's answers come to in the terms of `Answer`, refusal by refusal.
 -- Premises are the callees' `ensures` and the tests as they went. Assumes nothing.
-use mathlib.Core.Path.{_≡_, refl, sym, ap, _∙_}
-use mathlib.Core.Bool.{Bool, true, false, _&&_}
-use mathlib.Core.List.{List, [], _∷_, _++_}
-use Prim.Native.Nat.{ℕ, zero, suc, _+_, _*_, _/_, _<_, _≤_}
+use mathlib.Core.Path.{_≡_, refl, sym, _∙_}
+use mathlib.Core.Bool.{Bool, true, false}
+use mathlib.Core.List.{List, _++_}
+use Prim.Native.Nat.{ℕ, _+_, _*_, _/_, _<_, _≤_}
 use native.Mathlib.Omega.{arith}
 use lib.ListN.{length, drop, length-drop, drop-of-length-le}
 use lib.Seq.{sets, sets-eq}
-use lib.Dec.{ltb, leb, eqb}
-use borrow.Author.Tests.{lt-ltb, le-ltb, le-leb, lt-leb, leb-true, ltb-true, eq-eqb, ne-eqb}
+use borrow.Author.Tests.{lt-ltb, le-ltb, le-leb, lt-leb, leb-true, ltb-true, ne-eqb}
 use Rattle.x696.specs.Outcome.{Outcome, refused, got, next, must}
 use Rattle.x696.specs.OutcomeLaws.{next-inv, must-inv}
 use Rattle.x696.specs.Value.{Val, nodeWidth, size, nodes, contents}
 use Rattle.x696.specs.ListLaws.{nodes-length}
 use Rattle.x696.specs.Types.{Ty}
-use Rattle.x696.specs.Read.{Message, message, offset, read}
+use Rattle.x696.specs.Read.{Message, message, read}
 use Rattle.x696.specs.Reply.{Answer, refusal, done, refusalReply, doneReply, then, answer, unless, inPart}
 use Rattle.x696.specs.Table.{rowWidth, typeOf}
 use Rattle.x696.specs.TableFault.{TableFault as Meant, sound, badSize, badRow, tableFault}
@@ -25,7 +24,6 @@ use Rattle.table.specs.Judged.{asFault}
 use Rattle.table.specs.declared.reply.Reply.{Reply}
 use Rattle.table.specs.declared.check.TableFault.{TableFault}
 use Rattle.table.specs.declared.check.TableFault.the-variants.{Sound, Size, Row}
-use Rattle.octets.specs.declared.answers.Fault.{Fault}
 use Rattle.kinds.specs.Run.{Gone, Ran}
 use Rattle.reading.specs.Replied.{Refuses, AskedAnswer, Handed, ValueAnswer, Decodes}
 use Rattle.kinds.specs.declared.cursor.Cursor.{Cursor}

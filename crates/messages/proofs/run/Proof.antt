@@ -1,8 +1,7 @@
 -- Safe. Invariant: a line begins inside the text. Measure: the octets left.
 -- Assumes nothing.
-use Prim.Native.Nat.{_-_, _≤_, _<_, _^_}
+use Prim.Native.Nat.{_-_, _≤_}
 use lib.ListN.{length}
-use native.Mathlib.Omega.{arith}
 use mathlib.Core.Path.{_≡_}
 use borrow.Author.Needs.{needs}
 use Rattle.messages.proofs.run.Statement.{statement}

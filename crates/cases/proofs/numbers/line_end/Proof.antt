@@ -1,9 +1,7 @@
 -- Safe; ends behind a line feed, or at the end. Invariant: the octet looked at lies in the line. Measure: the octets left.
 -- Assumes nothing.
-use Prim.Native.Nat.{_-_, _≤_, _<_, _^_}
+use Prim.Native.Nat.{_-_, _≤_}
 use lib.ListN.{length}
-use native.Mathlib.Omega.{arith}
-use mathlib.Core.Path.{_≡_}
 use borrow.Author.Needs.{needs}
 use Rattle.cases.proofs.numbers.line_end.Statement.{statement}
 use Rattle.cases.proofs.numbers.line_end.Tie as tie

@@ -2,8 +2,6 @@
 -- Assumes nothing.
 use Prim.Native.Nat.{_-_, _≤_, _<_, _^_}
 use lib.ListN.{length}
-use native.Mathlib.Omega.{arith}
-use mathlib.Core.Path.{_≡_}
 use borrow.Author.Needs.{needs}
 use Rattle.cases.proofs.numbers.number_at.Statement.{statement}
 use Rattle.cases.proofs.numbers.number_at.Tie as tie

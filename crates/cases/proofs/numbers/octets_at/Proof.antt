@@ -1,8 +1,7 @@
 -- Safe. Invariant: the buffer keeps its length. Measure: the numbers left.
 -- Assumes nothing.
-use Prim.Native.Nat.{_-_, _≤_, _<_, _^_}
+use Prim.Native.Nat.{_-_, _≤_}
 use lib.ListN.{length}
-use native.Mathlib.Omega.{arith}
 use mathlib.Core.Path.{_≡_}
 use borrow.Author.Needs.{needs}
 use Rattle.cases.proofs.numbers.octets_at.Statement.{statement}

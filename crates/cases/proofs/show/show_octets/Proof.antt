@@ -1,9 +1,7 @@
 -- Safe. Invariant: the numbers shown. Measure: those left.
 -- Assumes nothing.
-use Prim.Native.Nat.{_-_, _≤_, _<_, _^_}
+use Prim.Native.Nat.{_-_, _≤_}
 use lib.ListN.{length}
-use native.Mathlib.Omega.{arith}
-use mathlib.Core.Path.{_≡_}
 use borrow.Author.Needs.{needs}
 use Rattle.cases.proofs.show.show_octets.Statement.{statement}
 use Rattle.cases.proofs.show.show_octets.Tie as tie
