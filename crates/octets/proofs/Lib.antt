@@ -17,3 +17,6 @@ pub mod Tagging
 -- Presence bits
 pub mod Weights
 pub mod PresenceBits
+pub mod OneBit
+pub mod EditBits
+pub mod EditTouches

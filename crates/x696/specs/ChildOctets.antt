@@ -3,25 +3,29 @@
 -- Assumes nothing.
 use mathlib.Core.Path.{_≡_, refl, sym}
 use mathlib.Core.List.{List, [], _++_, append-assoc, append-nil}
-use Prim.Native.Nat.{ℕ, zero, suc}
+use Prim.Native.Nat.{ℕ, zero, suc, _+_}
+use lib.ListN.{length, length-append}
 use Rattle.x696.specs.Outcome.{choose}
 use Rattle.x696.specs.Digits.{digits}
 use Rattle.x696.specs.Tag.{tagOctets}
 use Rattle.x696.specs.Bits.{preamble}
 use Rattle.x696.specs.Variable.{variableUnsigned}
 use Rattle.x696.specs.Value.{Val, node, Vals, noValues, value}
-use Rattle.x696.specs.Types.{Ty, leaf, sequence, sequenceOf, choice, Items, noItems, item, markCount, tagAt}
+use Rattle.x696.specs.Types.{Ty, leaf, sequence, sequenceOf, choice, Items, noItems, item}
+use Rattle.x696.specs.Types.{presenceCount, markCount, tagAt}
 use Rattle.x696.specs.Encode.{presenceBits, presence, carriedOctets, each, encode, encodeComponents}
 use Rattle.x696.specs.Encode.{encodeAlternative, ownOctets}
 use Rattle.x696.specs.Path.{child, componentAt, elementAt, alternativeAt, childAt, replaceAt, replaceChild}
 use Rattle.x696.specs.Path.{componentsBefore, elementsBefore, childBefore}
+use Rattle.x696.specs.PresencePlace.{marksBefore}
+use Rattle.x696.specs.Complete.{presenceBits-length}
 use Rattle.x696.specs.Frame.{Frame, leading, filled}
 use Rattle.x696.specs.ChildLaws.{no-component, same-component, child-replaced, child-same, with-child-differs}
 
 -- octets, or bits, that hold those of a component, whatever its value
-record Holds (whole part : Val → List ℕ) (before : List ℕ) : Type 0 where
-  after : List ℕ
-  held : (y : Val) → whole y ≡ before ++ (part y ++ after)
+pub record Holds (whole part : Val → List ℕ) (before : List ℕ) : Type 0 where
+  pub after : List ℕ
+  pub held : (y : Val) → whole y ≡ before ++ (part y ++ after)
 
 behind : {whole part : Val → List ℕ} {before : List ℕ} (front : List ℕ) → Holds whole part before
     → Holds (λ y. front ++ whole y) part (front ++ before)
@@ -42,17 +46,23 @@ components-hold (item m d t is) (value v vs) zero e =
     (record { after = encodeComponents is vs; held = λ y. refl })
 components-hold (item m d t is) (value v vs) (suc i) e = behind (ownOctets m d t v) (components-hold is vs i e)
 
-bits-hold : (is : Items) (vs : Vals) (i : ℕ) {m d : ℕ} {u : Ty} {x : Val} → componentAt is vs i ≡ child m d u x
-    → (left : List ℕ) × Holds (λ y. presence is (replaceAt i y vs)) (presenceBits m d u) left
-unfolding componentAt replaceAt presence
+-- presence bits, with those before a component's own
+abbrev pub HoldsBit : (whole : Val → List ℕ) → (number mark default : ℕ) → Ty → Val → Type 0
+HoldsBit whole n m d u x = (left : List ℕ) × (length left ≡ n) × Holds whole (presenceBits m d u) left
+
+pub bits-hold : (is : Items) (vs : Vals) (i : ℕ) {m d : ℕ} {u : Ty} {x : Val} → componentAt is vs i ≡ child m d u x
+    → HoldsBit (λ y. presence is (replaceAt i y vs)) (marksBefore is i) m d u x
+unfolding componentAt replaceAt presence marksBefore
 bits-hold noItems vs i e = absurd (no-component e)
 bits-hold (item m d t is) noValues i e = absurd (no-component e)
 bits-hold (item m d t is) (value v vs) zero e =
-    let whole : Val → List ℕ = λ y. presence (item m d t is) (value y vs) in
-    same-component (λ m d u x. (left : List ℕ) × Holds whole (presenceBits m d u) left) e
-    ([], record { after = presence is vs; held = λ y. refl })
+    same-component (HoldsBit _ _) e
+    ([], refl, record { after = presence is vs; held = λ y. refl })
 bits-hold (item m d t is) (value v vs) (suc i) e =
-    let (left, h) = bits-hold is vs i e in (presenceBits m d t v ++ left, behind (presenceBits m d t v) h)
+    let (left, n, h) = bits-hold is vs i e in
+    let n′ : length (presenceBits m d t v ++ left) ≡ presenceCount m + marksBefore is i =
+    rw (length-append (presenceBits m d t v) left, presenceBits-length m d t v, n) in
+    (presenceBits m d t v ++ left, n′, behind (presenceBits m d t v) h)
 
 elements-hold : (t : Ty) (vs : Vals) (i : ℕ) {m d : ℕ} {u : Ty} {x : Val} → elementAt t vs i ≡ child m d u x
     → HoldsOwn (λ y. each (λ v. encode t v) (replaceAt i y vs)) (elementsBefore t vs i) m d u x
@@ -103,7 +113,7 @@ unfolding childAt replaceChild encode childBefore leading filled
 child-framed (leaf l) v i e = absurd (no-component e)
 child-framed (sequence is) (node k n os vs) i {x = x} e =
     let g = components-hold is vs i e in
-    let (left, b) = bits-hold is vs i e in
+    let (left, number, b) = bits-hold is vs i e in
     let s = child-same (sequence is) (node k n os vs) i e in
     let q : presence is vs ≡ presence is (replaceAt i x vs) = cc in
     record {

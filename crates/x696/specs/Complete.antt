@@ -38,13 +38,13 @@ unfolding presenceBits presenceCount
 presenceBits-length zero d t v = refl
 presenceBits-length (suc m) d t v = refl
 
-presence-length : {is : Items} {vs : Vals} → FitComponents is vs → length (presence is vs) ≡ markCount is
+pub presence-length : {is : Items} {vs : Vals} → FitComponents is vs → length (presence is vs) ≡ markCount is
 unfolding presence markCount
 presence-length no-components = refl
 presence-length (component {m = m} {d = d} {t = t} {is = is} {v = v} {vs = vs} f h) =
     rw (length-append (presenceBits m d t v) (presence is vs), presenceBits-length m d t v, presence-length h)
 
-presence-bits : {is : Items} {vs : Vals} → FitComponents is vs → Below 1 (presence is vs)
+pub presence-bits : {is : Items} {vs : Vals} → FitComponents is vs → Below 1 (presence is vs)
 unfolding presence presenceBits
 presence-bits no-components = tt
 presence-bits (component {m = zero} f h) = presence-bits h

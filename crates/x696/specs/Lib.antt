@@ -27,11 +27,17 @@ pub mod TableFault
 -- Paths, settings, and what each operation answers
 pub mod Path
 pub mod Apart
+pub mod PathOrder
+pub mod PresencePlace
 pub mod Frame
 pub mod Setting
 pub mod Reply
 pub mod Operations
 pub mod Editing
+pub mod Result
+pub mod Edits
+pub mod Component
+pub mod LongerRoad
 -- Document 01's twelve cases
 pub mod Computing
 pub mod Cases
@@ -59,6 +65,7 @@ pub mod EncodeLaws
 pub mod WalkSound
 pub mod WalkComplete
 pub mod ListLaws
+pub mod ContentsLaws
 -- Laws: the table
 pub mod TableTests
 pub mod TableLaws
@@ -68,9 +75,20 @@ pub mod TableKinds
 pub mod TableTypes
 pub mod TableNesting
 -- Laws: paths, and what an edit changes
+pub mod ApartLaws
 pub mod ChildLaws
 pub mod ChildFits
 pub mod PathLaws
+pub mod PathTypes
 pub mod ChildOctets
+pub mod BeforeLaws
 pub mod Locality
+pub mod OrderLaws
 pub mod SettingLaws
+-- Laws: what the operations answer
+pub mod AskedLaws
+pub mod EditLaws
+pub mod DecodeLaws
+pub mod LongerRoadLaws
+pub mod ComponentLaws
+pub mod ReadingLaws

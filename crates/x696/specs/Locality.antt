@@ -6,7 +6,7 @@ use mathlib.Core.List.{List, [], _∷_, _++_, append-assoc, append-nil}
 use Prim.Native.Nat.{ℕ, _+_}
 use native.Mathlib.Omega.{arith}
 use lib.ListN.{length, take, drop, length-append}
-use lib.Seq.{take-append-seam, drop-append-seam}
+use lib.Seq.{take-append-seam, drop-append-seam, drop-append-add, take-at}
 use Rattle.x696.specs.Bits.{preamble}
 use Rattle.x696.specs.DigitsLaws.{digits-length}
 use Rattle.x696.specs.Value.{Val}
@@ -18,7 +18,8 @@ use Rattle.x696.specs.Apart.{Apart}
 use Rattle.x696.specs.Frame.{Frame, leading, filled}
 use Rattle.x696.specs.ChildLaws.{child-value, child-replaced}
 use Rattle.x696.specs.ChildOctets.{Framed, alone, child-framed, with-child-octets, with-child-bits}
-use Rattle.x696.specs.PathLaws.{same-found, step-inv, replace-same, others-keep}
+use Rattle.x696.specs.PathLaws.{same-found, step-inv, inner-same, find-replaced, replace-same, others-keep}
+use Rattle.x696.specs.BeforeLaws.{before-length}
 
 -- the octets of a message before and after an edit: one frame, filled with the old component and with the new one
 pub record Changed (old new : List ℕ) (m d : ℕ) (u : Ty) (x y : Val) : Type 0 where
@@ -87,6 +88,26 @@ leading-length : (f : Frame) (m d : ℕ) (u : Ty) (x y : Val) → length (leadin
 unfolding leading preamble
 leading-length f m d u x y = simp (length-append, digits-length)
 
+-- a component inside a component, both with their marks: it stands in the other's octets, and changes their length by
+-- that of its own
+module _ (m d : ℕ) (t : Ty) (v : Val) (p : List ℕ) {m′ d′ : ℕ} {u : Ty} {x : Val}
+    (e : findFrom m d t v p ≡ found m′ d′ u x) where
+  inner-filled : ownOctets m d t v ≡ filled (path-framed m d t v p e .frame) m′ d′ u x
+  inner-filled = ap (ownOctets m d t) (sym (inner-same m d t v p e)) ∙ path-framed m d t v p e .fills x
+
+  pub inner-stands : (after : List ℕ) × (ownOctets m d t v ≡ octetsBefore t v p ++ (ownOctets m′ d′ u x ++ after))
+  unfolding filled
+  inner-stands = let f = path-framed m d t v p e in (f .frame .after, rw (f .leads) inner-filled)
+
+  pub inner-length : (y : Val)
+      → length (ownOctets m d t (replace p y v)) + length (ownOctets m′ d′ u x)
+      ≡ length (ownOctets m d t v) + length (ownOctets m′ d′ u y)
+  unfolding filled
+  inner-length y =
+      let f = path-framed m d t v p e in
+      let h = leading-length (f .frame) m′ d′ u x y in
+      simp (inner-filled, f .fills y, length-append) (omega arith)
+
 module _ (t : Ty) (v : Val) (p : List ℕ) {m d : ℕ} {u : Ty} {x : Val} (e : find t v p ≡ found m d u x) where
   framed : Framed (octetsBefore t v p) (λ y. encode t (replace p y v)) m d u x
   unfolding find ownOctets carriedOctets
@@ -119,6 +140,42 @@ module _ (t : Ty) (v : Val) (p : List ℕ) {m d : ℕ} {u : Ty} {x : Val} (e : f
       let c = edit-changes y in
       let h = leading-length (c .frame) m d u x y in
       simp (c .was, c .is, length-append) (omega arith)
+
+-- lists that begin with the same octets up to one length
+same-front : (a b c d : List ℕ) → length a ≡ length b → a ++ c ≡ b ++ d → a ≡ b
+same-front a b c d n e = sym (take-at a c (length b) n) ∙ (ap (take (length b)) e ∙ take-append-seam b d)
+
+-- a component's octets stand behind those before it, and the same follows them whatever the component is
+pub parts-replaced : (t : Ty) (v : Val) (p : List ℕ) {m d : ℕ} {u : Ty} {x : Val} → find t v p ≡ found m d u x
+    → (y : Val)
+    → (after : List ℕ) × (encode t v ≡ octetsBefore t v p ++ (ownOctets m d u x ++ after))
+    × (encode t (replace p y v) ≡ octetsBefore t (replace p y v) p ++ (ownOctets m d u y ++ after))
+unfolding filled
+parts-replaced t v p {m} {d} {u} {x} e y =
+    let g = framed t v p e in
+    let f = g .frame in
+    let (after, new) = own-stands t (replace p y v) p (find-replaced t v p e y) in
+    let n : length (leading f m d u y) ≡ length (octetsBefore t (replace p y v) p) =
+    leading-length f m d u y x ∙ (ap length (sym (g .leads)) ∙ sym (before-length t v p e y)) in
+    let front = same-front (leading f m d u y) (octetsBefore t (replace p y v) p) _ _ n (sym (g .fills y) ∙ new) in
+    (f .after, rw (g .leads) (old-filled t v p e), g .fills y ∙ rw front)
+
+behind-both : (a b c : List ℕ) → drop (length a + length b) (a ++ (b ++ c)) ≡ c
+behind-both a b c = drop-append-add a (b ++ c) (length b) ∙ drop-append-seam b c
+
+-- so the new message is the old one with the component's octets exchanged, and its front changed at most in a presence
+-- bit
+module _ (t : Ty) (v : Val) (p : List ℕ) {m d : ℕ} {u : Ty} {x : Val} (e : find t v p ≡ found m d u x) where
+  pub before-part : octetsBefore t v p ≡ take (length (octetsBefore t v p)) (encode t v)
+  before-part = let (after, h) = own-stands t v p e in rw h (sym (take-append-seam (octetsBefore t v p) _))
+
+  pub spliced : (y : Val)
+      → encode t (replace p y v)
+      ≡ octetsBefore t (replace p y v) p
+      ++ (ownOctets m d u y ++ drop (length (octetsBefore t v p) + length (ownOctets m d u x)) (encode t v))
+  spliced y =
+      let (after, old, new) = parts-replaced t v p e y in
+      new ∙ rw (old, behind-both (octetsBefore t v p) (ownOctets m d u x) after)
 
 -- the component at every other path stays, with its own octets in the message before and after
 pub neighbour-keeps : (t : Ty) (v : Val) {p q : List ℕ} {m d m′ d′ : ℕ} {u u′ : Ty} {x x′ : Val} → Apart p q

@@ -71,7 +71,7 @@ module _ {m′ d′ : ℕ} {u : Ty} {x : Val} where
       step-inv m d t v i p e λ m₁ d₁ t₁ v₁ c q.
       rw (child-value t v i c, child-replaced t v i c (replace p y v₁), inner-found m₁ d₁ t₁ v₁ p q y)
 
-  inner-same : (m d : ℕ) (t : Ty) (v : Val) (p : List ℕ) → findFrom m d t v p ≡ found m′ d′ u x → replace p x v ≡ v
+  pub inner-same : (m d : ℕ) (t : Ty) (v : Val) (p : List ℕ) → findFrom m d t v p ≡ found m′ d′ u x → replace p x v ≡ v
   unfolding findFrom replace
   inner-same m d t v [] e = cc
   inner-same m d t v (i ∷ p) e =

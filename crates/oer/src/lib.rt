@@ -1,0 +1,1 @@
+// The theorems that answer the demands stand in specs/.
