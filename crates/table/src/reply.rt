@@ -3,6 +3,7 @@ ghost use mathlib.Core.Path.{_≡_};
 ghost use Rattle.table.specs.Replies.{asReply};
 ghost use Rattle.x696.specs.Reply.{refusalReply, doneReply};
 
+#[repr(C)]
 pub struct Reply {
     pub number: u64,
     pub part: u64,
