@@ -15,14 +15,14 @@ use Rattle.x696.specs.TableFault.{rowSound}
 use Rattle.x696.specs.TableLaws.{typeOf-row}
 use Rattle.x696.specs.TableRows.{kind-known, enumerated-row}
 use Rattle.table.specs.Orders.{Ascends}
-use Rattle.kinds.specs.Run.{Ran, insideAt, leafAt}
+use Rattle.kinds.specs.Run.{ScalarAnswer, Ran, insideAt, leafAt}
 use Rattle.kinds.specs.declared.cursor.Read.{Read}
+use Rattle.octets.specs.declared.answers.ReadNumber.{ReadNumber}
 
-seven-up : (k : ℕ) → 0 < k → (k ≡ 1 → ⊥) → (k ≡ 2 → ⊥) → (k ≡ 3 → ⊥) → (k ≡ 4 → ⊥) → (k ≡ 5 → ⊥) → (k ≡ 6 → ⊥)
-    → 7 ≤ k
-seven-up k h one two three four five six = omega arith
+six : (k : ℕ) → 0 < k → k < 7 → (k ≡ 1 → ⊥) → (k ≡ 2 → ⊥) → (k ≡ 3 → ⊥) → (k ≡ 4 → ⊥) → (k ≡ 5 → ⊥) → k ≡ 6
+six k h g one two three four five = omega arith
 
-nine : (k : ℕ) → 7 ≤ k → k < 10 → (k ≡ 7 → ⊥) → (k ≡ 8 → ⊥) → k ≡ 9
+nine : (k : ℕ) → 6 < k → k < 10 → (k ≡ 7 → ⊥) → (k ≡ 8 → ⊥) → k ≡ 9
 nine k h g seven eight = omega arith
 
 module _ (rows items : List ℕ) (row : ℕ) where
@@ -31,6 +31,11 @@ module _ (rows items : List ℕ) (row : ℕ) where
       → typeOf rows items row ≡ leaf l → Ran msg (leafAt l msg at count) at count used ns cs ns′ cs′ r
       → Ran msg (insideAt (typeOf rows items row) msg at count) at count used ns cs ns′ cs′ r
   ran-row e w = rw e w
+
+  pub scalar-row : {l : Leaf} {msg : List ℕ} {k at count : ℕ} {r : ReadNumber}
+      → typeOf rows items row ≡ leaf l → rowKind rows row ≡ k → ScalarAnswer msg (leafAt l msg at count) k at count r
+      → ScalarAnswer msg (insideAt (typeOf rows items row) msg at count) (rowKind rows row) at count r
+  scalar-row e f w = rw (e, f) w
 
   module _ {kind : ℕ} (ek : kind ≡ rowKind rows row) where
     pub boolean-type : kind ≡ 1 → typeOf rows items row ≡ leaf boolean
@@ -44,6 +49,11 @@ module _ (rows items : List ℕ) (row : ℕ) where
     pub double-type : kind ≡ 5 → typeOf rows items row ≡ leaf (real binary64)
     unfolding typeBy choose
     double-type e = rw (typeOf-row rows items row, ← ek, e)
+
+    -- the last of them is what is none of the others
+    pub null-kind : rowSound rows items row ≡ true → rowKind rows row < 7
+        → (kind ≡ 1 → ⊥) → (kind ≡ 2 → ⊥) → (kind ≡ 3 → ⊥) → (kind ≡ 4 → ⊥) → (kind ≡ 5 → ⊥) → kind ≡ 6
+    null-kind s h = six kind (rw ek (kind-known rows items row s .0)) (rw ek h)
 
     pub null-type : kind ≡ 6 → typeOf rows items row ≡ leaf null
     unfolding typeBy choose
@@ -72,13 +82,9 @@ module _ (rows items : List ℕ) (row : ℕ) where
       bits-type e = rw (typeOf-row rows items row, ← ek, e, ← ef, ← ea, ← eb)
 
       -- the last kind is what is none of the others
-      pub visible-type : (kind ≡ 1 → ⊥) → (kind ≡ 3 → ⊥) → (kind ≡ 4 → ⊥) → (kind ≡ 5 → ⊥) → (kind ≡ 6 → ⊥)
-          → (kind ≡ 2 → ⊥) → (kind ≡ 7 → ⊥) → (kind ≡ 8 → ⊥)
-          → rowSound rows items row ≡ true → rowKind rows row < 10
+      pub visible-type : 6 < rowKind rows row → rowKind rows row < 10 → (kind ≡ 7 → ⊥) → (kind ≡ 8 → ⊥)
           → typeOf rows items row ≡ leaf (visibleString f a b)
       unfolding typeBy choose
-      visible-type one three four five six two seven eight s h =
-          let up : 7 ≤ kind =
-          seven-up kind (rw ek (kind-known rows items row s .0)) one two three four five six in
-          let e : kind ≡ 9 = nine kind up (rw ek h) seven eight in
+      visible-type g h seven eight =
+          let e : kind ≡ 9 = nine kind (rw ek g) (rw ek h) seven eight in
           rw (typeOf-row rows items row, ← ek, e, ← ef, ← ea, ← eb)

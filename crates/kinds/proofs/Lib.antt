@@ -1,4 +1,5 @@
 pub mod Ran
+pub mod Scalars
 pub mod Chosen
 pub mod Fixed
 pub mod Numbered

@@ -2,11 +2,9 @@
 -- Premises are the callees' `ensures` and the tests as they went. Assumes nothing.
 use mathlib.Core.Path.{_≡_, refl, ap, _∙_}
 use mathlib.Core.Bool.{Bool, true, false, _||_}
-use mathlib.Core.List.{List, [], _∷_}
-use Prim.Native.Nat.{ℕ, _+_, _*_, _-_, _^_, _%_, _<_, _≤_}
-use native.Mathlib.Omega.{arith}
+use mathlib.Core.List.{List, []}
+use Prim.Native.Nat.{ℕ, _+_, _-_, _^_, _%_, _<_, _≤_}
 use lib.ListN.{length, take, drop}
-use lib.Seq.{sets}
 use lib.Dec.{leb, eqb}
 use borrow.Author.Tests.{le-leb, lt-leb}
 use Rattle.x696.specs.Outcome.{Outcome, refused, got, next, must}
@@ -15,7 +13,7 @@ use Rattle.x696.specs.Length.{run}
 use Rattle.x696.specs.Integer.{fixedUnsigned, allowed, integerForm, readForm}
 use Rattle.x696.specs.Enumerated.{listed, readEnumerated}
 use Rattle.x696.specs.Real.{Precision, binary32, binary64, realOctets, realAllowed}
-use Rattle.x696.specs.Value.{Val, node, noValues, nodeWidth}
+use Rattle.x696.specs.Value.{Val, node, noValues}
 use Rattle.x696.specs.Leaf.{integer, enumerated, real, realKind, readLeaf}
 use Rattle.x696.specs.Read.{Message}
 use Rattle.octets.specs.Answers.{fault, number, NumberAnswer}
@@ -23,10 +21,9 @@ use Rattle.octets.specs.declared.answers.Fault.{Fault}
 use Rattle.octets.specs.declared.answers.Number.{Number}
 use Rattle.octets.specs.declared.answers.ReadNumber.{ReadNumber}
 use Rattle.octets.specs.declared.answers.ReadNumber.the-variants.{Got as GotNumber, Refused as NoNumber}
-use Rattle.kinds.specs.Run.{cursor, Ran, leafAt, inMessage}
-use Rattle.kinds.specs.declared.cursor.Read.{Read}
-use Rattle.kinds.specs.declared.cursor.Read.the-variants.{Got, Refused}
-use Rattle.kinds.proofs.Ran.{leaf-is, ran-refused, ran-leaf}
+use Rattle.kinds.specs.Run.{ScalarAnswer, leafAt, inMessage}
+use Rattle.kinds.proofs.Ran.{leaf-is}
+use Rattle.kinds.proofs.Scalars.{scalar-refused, scalar-found}
 use Rattle.kinds.proofs.Fixed.{unsigned-lacks, unsigned-there}
 
 -- the number that o gives, refused with j where it fails the test, else a node of kind k
@@ -79,24 +76,23 @@ module _ (msg : List ℕ) (at count : ℕ) (h : at ≤ length msg) where
 
 -- ---- the answers
 module _
-    {msg : List ℕ} {q : Outcome Message Val} {o : Outcome (List ℕ) ℕ} {t : ℕ → Bool} {j k at count u : ℕ}
-    {l b l′ : List ℕ} {r : ReadNumber} {x : Read} (w : Tested q o t j k at count) (answer : NumberAnswer msg o at r)
+    {msg : List ℕ} {q : Outcome Message Val} {o : Outcome (List ℕ) ℕ} {t : ℕ → Bool} {j k at count : ℕ}
+    {r x : ReadNumber} (w : Tested q o t j k at count) (answer : NumberAnswer msg o at r)
   where
-    pub tested-stops : (f : Fault) → r ≡ NoNumber f → x ≡ Refused f → Ran msg q at count u l b l′ b x
+    pub tested-stops : (f : Fault) → r ≡ NoNumber f → x ≡ NoNumber f → ScalarAnswer msg q k at count x
     unfolding next
-    tested-stops f e = ran-refused (w .is ∙ rw (answer .stopped f e))
+    tested-stops f e = scalar-refused (w .is ∙ rw (answer .stopped f e))
 
     module _ (n : Number) (e : r ≡ GotNumber n) {y : Bool} (ey : y ≡ t (n .value)) where
-      pub tested-refuses : y ≡ false → x ≡ Refused (fault j at) → Ran msg q at count u l b l′ b x
+      pub tested-refuses : y ≡ false → x ≡ NoNumber (fault j at) → ScalarAnswer msg q k at count x
       unfolding next must
-      tested-refuses bad = ran-refused (w .is ∙ rw (answer .went n e .reads, ← ey, bad))
+      tested-refuses bad = scalar-refused (w .is ∙ rw (answer .went n e .reads, ← ey, bad))
 
-      pub tested-goes : y ≡ true → l′ ≡ sets l (count * nodeWidth) (k ∷ n .value ∷ [])
-          → x ≡ Got (cursor (n .next) (count + 1) u (n .value)) → Ran msg q at count u l b l′ b x
+      pub tested-goes : y ≡ true → x ≡ GotNumber (number (n .value) (n .next)) → ScalarAnswer msg q k at count x
       unfolding next must
-      tested-goes good s =
-          ran-leaf msg at (n .next) count u l b k (n .value) [] (w .is ∙ rw (answer .went n e .reads, ← ey, good))
-          (answer .went n e .inside) (omega arith) (omega (arith, answer .went n e .ahead)) s refl
+      tested-goes good =
+          scalar-found (w .is ∙ rw (answer .went n e .reads, ← ey, good))
+          (answer .went n e .inside) (answer .went n e .ahead)
 
 -- ---- REAL: which bits are allowed
 pub record RealBits (w : Precision) (half top nan : ℕ) : Type 0 where
@@ -119,26 +115,24 @@ module _ {w : Precision} {half top nan : ℕ} (f : RealBits w half top nan) (n :
 
 -- ---- REAL: its octets there or not
 module _
-    {w : Precision} {m k : ℕ} (f : RealForm w m k) (msg : List ℕ) {at count u : ℕ} {l b l′ : List ℕ} {x : Read}
-    (h : at ≤ length msg)
+    {w : Precision} {m k : ℕ} (f : RealForm w m k) (msg : List ℕ) {at count : ℕ} {x : ReadNumber} (h : at ≤ length msg)
   where
-    pub real-lacks : length msg - at < m → x ≡ Refused (fault 5 at)
-        → Ran msg (leafAt (real w) msg at count) at count u l b l′ b x
+    pub real-lacks : length msg - at < m → x ≡ NoNumber (fault 5 at)
+        → ScalarAnswer msg (leafAt (real w) msg at count) k at count x
     real-lacks g = tested-stops (real-tested msg at count h f) (unsigned-lacks msg at m h g refl) (fault 5 at) refl
 
     module _
         (g : m ≤ length msg - at) {n : ℕ} (en : n ≡ fromDigits 8 (take m (drop at msg))) {y : Bool}
         (ey : y ≡ realAllowed w n)
       where
-        pub real-refuses : y ≡ false → x ≡ Refused (fault 6 at)
-            → Ran msg (leafAt (real w) msg at count) at count u l b l′ b x
+        pub real-refuses : y ≡ false → x ≡ NoNumber (fault 6 at)
+            → ScalarAnswer msg (leafAt (real w) msg at count) k at count x
         real-refuses =
             tested-refuses (real-tested msg at count h f)
             (unsigned-there msg at m h g en refl) (number n (at + m)) refl ey
 
-        pub real-goes : y ≡ true → l′ ≡ sets l (count * nodeWidth) (k ∷ n ∷ [])
-            → x ≡ Got (cursor (at + m) (count + 1) u n)
-            → Ran msg (leafAt (real w) msg at count) at count u l b l′ b x
+        pub real-goes : y ≡ true → x ≡ GotNumber (number n (at + m))
+            → ScalarAnswer msg (leafAt (real w) msg at count) k at count x
         real-goes =
             tested-goes (real-tested msg at count h f)
             (unsigned-there msg at m h g en refl) (number n (at + m)) refl ey

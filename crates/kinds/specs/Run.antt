@@ -2,19 +2,22 @@
 -- Stores skip what does not fit (`sets`), so the same contract at empty buffers is validation. After a refusal nothing is said of
 -- the buffers: the operations lend empty parts first. Assumes nothing.
 use mathlib.Core.Path.{_≡_}
-use mathlib.Core.List.{List}
+use mathlib.Core.List.{List, []}
 use Prim.Native.Nat.{ℕ, suc, _+_, _*_, _≤_}
 use lib.ListN.{length, take, drop}
 use lib.Seq.{sets}
 use Rattle.x696.specs.Outcome.{Outcome, refused, got, next, choose}
 use Rattle.x696.specs.Length.{run, readRun}
 use Rattle.x696.specs.String.{fixedSize, readFixedBits, bitsIn}
-use Rattle.x696.specs.Value.{Val, node, nodeWidth, size, nodes, contents}
+use Rattle.x696.specs.Value.{Val, node, noValues, nodeWidth, size, nodes, contents}
 use Rattle.x696.specs.Leaf.{Leaf}
 use Rattle.x696.specs.Types.{Ty, leaf}
 use Rattle.x696.specs.Read.{Message, message, readInside}
 use Rattle.x696.specs.Operations.{nodeLimit}
 use Rattle.octets.specs.declared.answers.Fault.{Fault}
+use Rattle.octets.specs.declared.answers.Number.{Number}
+use Rattle.octets.specs.declared.answers.ReadNumber.{ReadNumber}
+use Rattle.octets.specs.declared.answers.ReadNumber.the-variants.{Got as GotNumber, Refused as NoNumber}
 use Rattle.kinds.specs.declared.cursor.Cursor.{Cursor}
 use Rattle.kinds.specs.declared.cursor.Read.{Read}
 use Rattle.kinds.specs.declared.cursor.Read.the-variants.{Got, Refused}
@@ -41,6 +44,16 @@ pub record Gone (msg : List ℕ) (o : Outcome Message Val) (p n u : ℕ) (l b l�
 pub record Ran (msg : List ℕ) (o : Outcome Message Val) (p n u : ℕ) (l b l′ b′ : List ℕ) (r : Read) : Type 0 where
   pub went : (c : Cursor) → r ≡ Got c → Gone msg o p n u l b l′ b′ c
   pub stopped : (f : Fault) → r ≡ Refused f → o ≡ refused (f .number) (f .place)
+
+-- the same of a value that is a number and no more: its node, of kind k, is for the caller to store
+pub record ScalarFound (msg : List ℕ) (o : Outcome Message Val) (k p n : ℕ) (x : Number) : Type 0 where
+  pub reads : o ≡ got (node k (x .value) [] noValues) (message (drop (x .next) msg) (suc n))
+  pub inside : x .next ≤ length msg
+  pub ahead : p ≤ x .next
+
+pub record ScalarAnswer (msg : List ℕ) (o : Outcome Message Val) (k p n : ℕ) (r : ReadNumber) : Type 0 where
+  pub went : (x : Number) → r ≡ GotNumber x → ScalarFound msg o k p n x
+  pub stopped : (f : Fault) → r ≡ NoNumber f → o ≡ refused (f .number) (f .place)
 
 -- a value at octet `at`, its own node counted as the one after `count`
 unfoldable pub insideAt : Ty → (msg : List ℕ) → (at count : ℕ) → Outcome Message Val

@@ -1,19 +1,15 @@
 // INTEGER (10): by its form, then its bounds.
 ghost use mathlib.Core.Path.{_≡_};
-ghost use mathlib.Core.List.{List};
-ghost use Prim.Native.Nat.{ℕ, _+_, _<_, _≤_};
-ghost use lib.ListN.{length, drop};
+ghost use Prim.Native.Nat.{ℕ, _+_, _*_, _^_, _<_, _≤_};
+ghost use lib.ListN.{length, take, drop};
+ghost use Rattle.x696.specs.Digits.{fromDigits};
 ghost use Rattle.x696.specs.Integer.{integerForm, readForm, fixedUnsigned, fixedSigned};
 ghost use Rattle.x696.specs.Leaf.{integer};
 ghost use Rattle.octets.specs.Answers.{NumberAnswer};
-ghost use Rattle.kinds.specs.Run.{Ran, leafAt};
-use crate::cursor::Read;
-use crate::cursor::got;
-use crate::cursor::refuse;
+ghost use Rattle.kinds.specs.Run.{ScalarAnswer, leafAt};
 use crate::widths::signed_width;
 use crate::widths::unsigned_width;
 use octets::answers::ReadNumber;
-use octets::nodes::put_node;
 use octets::numbers::read_number;
 use octets::numbers::sign_extend;
 use octets::variable::found;
@@ -25,6 +21,20 @@ use table::bounds::has_upper;
 use table::bounds::is_allowed;
 use table::bounds::is_unsigned;
 
+// The number that k octets hold: one or two without a loop.
+fn number_at(msg: &[u8], at: usize, k: usize) -> u64
+    requires { ⌜ (k ≤ 8) × (at + k ≤ length (now msg)) ⌝ }
+    ensures { λ r. ⌜ (r ≡ fromDigits 8 (take k (drop at (now (msg .entry))))) × (r < 2 ^ (8 * k)) ⌝ }
+{
+    if k == 1 {
+        return msg[at] as u64;
+    }
+    if k == 2 {
+        return msg[at] as u64 * 256 + msg[at + 1] as u64;
+    }
+    read_number(msg, at, k)
+}
+
 // A fixed-size number of k octets.
 fn fixed_unsigned(msg: &[u8], at: usize, k: usize) -> ReadNumber
     requires { ⌜ (at ≤ length (now msg)) × (k ≤ 8) ⌝ }
@@ -33,7 +43,7 @@ fn fixed_unsigned(msg: &[u8], at: usize, k: usize) -> ReadNumber
     if msg.len() - at < k {
         return refused(5, at);
     }
-    found(read_number(msg, at, k), at + k)
+    found(number_at(msg, at, k), at + k)
 }
 
 fn fixed_signed(msg: &[u8], at: usize, k: usize) -> ReadNumber
@@ -43,7 +53,7 @@ fn fixed_signed(msg: &[u8], at: usize, k: usize) -> ReadNumber
     if msg.len() - at < k {
         return refused(5, at);
     }
-    found(sign_extend(k, read_number(msg, at, k)), at + k)
+    found(sign_extend(k, number_at(msg, at, k)), at + k)
 }
 
 // By the form that the bounds give (10.3, 10.4).
@@ -66,29 +76,19 @@ fn read_form(flags: u64, a: u64, b: u64, msg: &[u8], at: usize) -> ReadNumber
     fixed_signed(msg, at, signed_width(a, b))
 }
 
-pub fn read_integer(
-    flags: u64,
-    a: u64,
-    b: u64,
-    msg: &[u8],
-    at: usize,
-    count: usize,
-    used: usize,
-    nodes: &mut [u64],
-) -> Read
-    requires { ⌜ (count < 4096) × (at ≤ length (now msg)) ⌝ }
-    ensures { λ r. ⌜ ((s : List ℕ) → Ran (now (msg .entry)) (leafAt (integer flags a b) (now (msg .entry)) at count) at count used (now (nodes .entry)) s (now (nodes .exit)) s r) ⌝ }
+pub fn read_integer(flags: u64, a: u64, b: u64, msg: &[u8], at: usize) -> ReadNumber
+    requires { ⌜ at ≤ length (now msg) ⌝ }
+    ensures { λ r. ⌜ ((count : ℕ) → ScalarAnswer (now (msg .entry)) (leafAt (integer flags a b) (now (msg .entry)) at count) 2 at count r) ⌝ }
 {
     match read_form(flags, a, b, msg, at) {
-        ReadNumber::Refused(f) => Read::Refused(f),
+        ReadNumber::Refused(f) => ReadNumber::Refused(f),
         ReadNumber::Got(n) => {
             let w = n.value;
             let next = n.next;
             if !is_allowed(flags, a, b, w) {
-                return refuse(7, at);
+                return refused(7, at);
             }
-            put_node(nodes, count, 2, w);
-            got(next, count + 1, used, w)
+            found(w, next)
         }
     }
 }

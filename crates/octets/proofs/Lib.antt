@@ -15,6 +15,7 @@ pub mod Puts
 pub mod Groups
 pub mod Tagging
 -- Presence bits
+pub mod Visible
 pub mod Weights
 pub mod PresenceBits
 pub mod OneBit

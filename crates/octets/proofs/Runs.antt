@@ -1,21 +1,19 @@
 -- Runs of octets of a message: the first octet and the rest; whether they are the fewest for their number, by the first
--- two; whether they are visible.
+-- two.
 -- Assumes nothing.
 use mathlib.Core.Path.{_≡_, refl, sym, subst, _∙_}
 use mathlib.Core.Bool.{true, false, not}
 use mathlib.Core.List.{List, [], _∷_}
 use Prim.Native.Nat.{ℕ, zero, suc, _+_, _-_, _<_, _≤_}
-use native.Mathlib.Nat.{add-zero, sub-zero}
 use native.Mathlib.Numerals.{add-one}
 use native.Mathlib.Omega.{arith}
 use lib.ListN.{length, getD, take, drop}
 use lib.Seq.{drop-cons}
 use lib.Dec.{ltb, eqb}
-use borrow.Author.Tests.{lt-ltb, ne-eqb, le-leb, lt-leb}
+use borrow.Author.Tests.{lt-ltb, ne-eqb}
 use Rattle.x696.specs.Digits.{Below}
 use Rattle.x696.specs.Fewest.{isFewest, isFewestSigned}
 use Rattle.x696.specs.FewestLaws.{isFewest-none, isFewest-one, isFewest-more}
-use Rattle.x696.specs.String.{visible}
 use Rattle.octets.proofs.Octets.{below-drop, below-take}
 use Rattle.octets.proofs.Few.{isFewestSigned-none, isFewestSigned-one, isFewestSigned-plus, isFewestSigned-minus}
 
@@ -70,33 +68,3 @@ module _
         → not (eqb first 255) ≡ isFewestSigned (take k (drop start msg))
     run-minus first second e f l =
         rw (run-two msg start k (omega arith) h, e) (sym (isFewestSigned-minus _ _ _ run-below (omega arith)))
-
--- ---- whether a run of n octets is visible: the octet at i decides, or what follows it
-module _
-    (msg : List ℕ) (start n i x : ℕ) (h : start + n ≤ length msg) (l : i < n) (e : x ≡ getD msg (start + i) 0)
-  where
-    rest-cons : take (n - i) (drop (start + i) msg) ≡ x ∷ take (n - (i + 1)) (drop (start + (i + 1)) msg)
-    rest-cons =
-        let f : start + (i + 1) ≡ start + i + 1 = omega arith in
-        rw (e, f) (run-cons msg (start + i) (n - i) (n - (i + 1)) (omega arith) (omega arith))
-
-    pub visible-low : x < 32 → visible (take (n - i) (drop (start + i) msg)) ≡ false
-    unfolding visible
-    visible-low g = rw (rest-cons, lt-leb 32 x g)
-
-    pub visible-high : 32 ≤ x → 126 < x → visible (take (n - i) (drop (start + i) msg)) ≡ false
-    unfolding visible
-    visible-high f g = rw (rest-cons, le-leb 32 x f, lt-leb x 126 g)
-
-    pub visible-more : 32 ≤ x → x ≤ 126
-        → visible (take (n - i) (drop (start + i) msg)) ≡ visible (take (n - (i + 1)) (drop (start + (i + 1)) msg))
-    unfolding visible
-    visible-more f g = rw (rest-cons, le-leb 32 x f, le-leb x 126 g)
-
-pub visible-end : (msg : List ℕ) (start n i : ℕ) → n ≤ i → visible (take (n - i) (drop (start + i) msg)) ≡ true
-unfolding visible
-visible-end msg start n i h = let e : n - i ≡ 0 = omega arith in rw e
-
-pub visible-start : (msg : List ℕ) (start n : ℕ)
-    → visible (take n (drop start msg)) ≡ visible (take (n - 0) (drop (start + 0) msg))
-visible-start msg start n = rw (sub-zero, add-zero)

@@ -115,7 +115,7 @@ module _ (rows items msg : List ℕ) (row at count : ℕ) (inside : at ≤ lengt
         abbrev O : Outcome Message Val
         O = read nodeLimit (typeOf rows items inner) (length msg) (message (drop (m .next) msg) (count + 1))
 
-        chosen : D ≡ next O λ v s. got (node 12 j [] (only v)) s
+        pub chosen : D ≡ next O λ v s. got (node 12 j [] (only v)) s
         unfolding must
         chosen =
             let many = alternatives-count items (λ k. typeOf rows items k) (rowFirst rows row) (rowCount rows row) in

@@ -31,7 +31,7 @@ use Rattle.kinds.proofs.Ran.{ran-refused, ran-gone, offset-is}
 use Rattle.reading.proofs.Defaults.{never-absent, default-same, missing-default, default-kind}
 
 -- a bit is 0 exactly if it is not 1
-bit-zero : (msg : List ℕ) (pre b : ℕ) → eqb (bitAt msg pre b) 0 ≡ not (eqb (bitAt msg pre b) 1)
+pub bit-zero : (msg : List ℕ) (pre b : ℕ) → eqb (bitAt msg pre b) 0 ≡ not (eqb (bitAt msg pre b) 1)
 unfolding bitAt
 bit-zero msg pre b =
     let n = getD msg (pre + b / 8) 0 / 2 ^ (7 - b % 8) in
@@ -40,7 +40,7 @@ bit-zero msg pre b =
     (λ e. let other = eqb-false (n % 2) 1 e in rw (e, eq-eqb (n % 2) 0 (omega arith)))
 
 -- a component with a presence bit
-marked-is : (m d : ℕ) (t : Ty) (x end : ℕ) (s : Message) → (m ≡ 0 → ⊥)
+pub marked-is : (m d : ℕ) (t : Ty) (x end : ℕ) (s : Message) → (m ≡ 0 → ⊥)
     → readComponent nodeLimit m d t x end s
     ≡ choose (eqb x 0) (λ _. counted nodeLimit end s λ s. got (missing m d t) s)
     (λ _. next (read nodeLimit t end s) λ v r. must (not (same v (missing m d t))) 6 (offset end (s .octets)) (got v r))

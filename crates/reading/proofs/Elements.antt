@@ -49,10 +49,10 @@ module _ (t : Ty) (msg : List ℕ) (at count : ℕ) where
 -- ---- a SEQUENCE OF: its quantity, then its elements
 module _ (rows items msg : List ℕ) (row at count : ℕ) (inside : at ≤ length msg)
     (sound : rowSound rows items row ≡ true) (is : rowKind rows row ≡ 11) where
-  abbrev D : Outcome Message Val
+  abbrev pub D : Outcome Message Val
   D = insideAt (typeOf rows items row) msg at count
 
-  quantity-first : D ≡ next (readUnsigned at (drop at msg)) λ n r.
+  pub quantity-first : D ≡ next (readUnsigned at (drop at msg)) λ n r.
       next (times (λ s. read nodeLimit (typeOf rows items (componentRow items (rowFirst rows row))) (length msg) s)
       n (message r (suc count))) λ vs s. got (node 11 n [] vs) s
   unfolding insideAt readInside read

@@ -40,7 +40,7 @@ ran-from h w = record {
 }
 
 -- the store of a node, and what follows it
-stored-node : (l ws : List ℕ) {m : List ℕ} (n k x : ℕ) → m ≡ sets l (n * nodeWidth) (k ∷ x ∷ [])
+pub stored-node : (l ws : List ℕ) {m : List ℕ} (n k x : ℕ) → m ≡ sets l (n * nodeWidth) (k ∷ x ∷ [])
     → sets m ((n + 1) * nodeWidth) ws ≡ sets l (n * nodeWidth) (k ∷ x ∷ ws)
 stored-node l ws n k x e = sets-after (k ∷ x ∷ []) ws l (n * nodeWidth) e (omega arith)
 

@@ -57,7 +57,7 @@ module _ (msg : List ℕ) (at k : ℕ) (inside : at ≤ length msg) where
 
 -- ---- n components from g on
 module _ (f : ℕ → Ty) (items : List ℕ) where
-  components-count : (g n : ℕ) → itemCount (componentsFrom f items g n) ≡ n
+  pub components-count : (g n : ℕ) → itemCount (componentsFrom f items g n) ≡ n
   unfolding itemCount itemsFrom
   components-count g zero = refl
   components-count g (suc n) = ap suc (components-count (suc g) n)
@@ -91,16 +91,16 @@ module _ (f : ℕ → Ty) (items : List ℕ) where
       let e : n - i ≡ 0 = omega arith in
       rw e
 
-cases-eq : (a b : ℕ) {X : Type 0} → (a ≡ b → X) → ((a ≡ b → ⊥) → X) → X
+pub cases-eq : (a b : ℕ) {X : Type 0} → (a ≡ b → X) → ((a ≡ b → ⊥) → X) → X
 cases-eq a b f g = cases (eqb a b) (λ e. f (eqb-true a b e)) (λ e. g (eqb-false a b e))
 
 -- a plain component has no bit
-plain-any : (m d : ℕ) (t : Ty) (x y end : ℕ) (s : Message) → m ≡ 0
+pub plain-any : (m d : ℕ) (t : Ty) (x y end : ℕ) (s : Message) → m ≡ 0
     → readComponent nodeLimit m d t x end s ≡ readComponent nodeLimit m d t y end s
 unfolding readComponent componentBy
 plain-any m d t x y end s e = rw e
 
-marked-one : (m : ℕ) → (m ≡ 0 → ⊥) → presenceCount m ≡ 1
+pub marked-one : (m : ℕ) → (m ≡ 0 → ⊥) → presenceCount m ≡ 1
 unfolding presenceCount
 marked-one zero h = absurd (h refl)
 marked-one (suc m) h = refl
@@ -126,13 +126,13 @@ module _ (rows items msg : List ℕ) (row at count : ℕ) (inside : at ≤ lengt
     (sound : rowSound rows items row ≡ true) (is : rowKind rows row ≡ 10) (g n k : ℕ)
     (eg : g ≡ rowFirst rows row) (en : n ≡ rowCount rows row)
     (ek : (f : ℕ → Ty) → k ≡ markCount (componentsFrom f items g n)) where
-  abbrev D : Outcome Message Val
+  abbrev pub D : Outcome Message Val
   D = insideAt (typeOf rows items row) msg at count
 
   abbrev T : ℕ → Ty
   T = λ j. typeOf rows items j
 
-  preamble-first : D ≡ next (readPreamble k at (drop at msg)) λ bits r.
+  pub preamble-first : D ≡ next (readPreamble k at (drop at msg)) λ bits r.
       next (readComponents nodeLimit (componentsFrom T items g n) bits (length msg) (message r (suc count))) λ vs s.
       got (node 10 n [] vs) s
   unfolding insideAt readInside
@@ -144,10 +144,10 @@ module _ (rows items msg : List ℕ) (row at count : ℕ) (inside : at ≤ lengt
   preamble-stops f = preamble-first ∙ next-refused _ f
 
   module _ (bits-got : readPreamble k at (drop at msg) ≡ got (bitsAt msg at k) (drop (at + bitOctets k) msg)) where
-    abbrev L : (i b p c : ℕ) → Outcome Message Vals
+    abbrev pub L : (i b p c : ℕ) → Outcome Message Vals
     L i b p c = componentsLeft rows items msg at g n k i b p c
 
-    node-first : D ≡ next (L 0 0 (at + bitOctets k) (count + 1)) λ vs s. got (node 10 n [] vs) s
+    pub node-first : D ≡ next (L 0 0 (at + bitOctets k) (count + 1)) λ vs s. got (node 10 n [] vs) s
     node-first = preamble-first ∙ next-got _ bits-got ∙ rw (add-zero g, sub-zero n, add-one count)
 
     module _ {u : ℕ} {l₀ b₀ l₁ b₁ : List ℕ} (i b p c : ℕ) {w : ℕ}

@@ -1,44 +1,185 @@
-// The readers of values. "A SEQUENCE, a SEQUENCE OF and a CHOICE may each hold the other two" (document 01): they call each other
-// through `read_value`, and the row number falls at each descent.
+// The readers of values. "A SEQUENCE, a SEQUENCE OF and a CHOICE may each hold the other two" (document 01): each opens
+// its group and calls the loop over a group's members, `read_members`, which comes back to them through `read_row`. The
+// row number falls at each descent. Each function of this cycle but the loop has one caller, so that the compiler puts
+// it into the loop, where kinds 1 to 6 are read without a call.
 ghost use mathlib.Core.Path.{_≡_};
-ghost use Prim.Native.Nat.{ℕ, _+_, _/_, _<_, _≤_};
+ghost use Prim.Native.Nat.{ℕ, _/_, _<_, _≤_};
 ghost use lib.ListN.{length, drop};
-ghost use Rattle.x696.specs.Types.{Ty};
-ghost use Rattle.x696.specs.Read.{message, read, readComponent};
+ghost use Rattle.x696.specs.Read.{message, read};
 ghost use Rattle.x696.specs.Operations.{nodeLimit};
-ghost use Rattle.x696.specs.Table.{rowWidth, rowKind, itemWidth, componentRow, componentMark, componentDefault, typeOf};
+ghost use Rattle.x696.specs.Table.{rowWidth, rowKind, typeOf};
 ghost use Rattle.x696.specs.TableLaws.{SoundTable};
-ghost use Rattle.x696.specs.TableRows.{Component};
-ghost use Rattle.octets.specs.Presence.{bitAt};
 ghost use Rattle.kinds.specs.Run.{Ran, insideAt};
-ghost use Rattle.reading.specs.Parts.{elements};
-use crate::parts::check_default;
+ghost use Rattle.reading.specs.Members.{memberAt, members, Member, Members, RanAll};
+use crate::parts::bit_of;
 use crate::parts::count_marked;
-use crate::parts::is_marked;
+use crate::parts::is_default;
+use crate::parts::is_missing;
 use crate::parts::is_padded;
+use crate::parts::member_mark;
+use crate::parts::member_row;
+use crate::parts::missing_kind;
 use crate::parts::read_missing;
 use crate::tags::find_tag;
 use kinds::cursor::Read;
 use kinds::cursor::got;
 use kinds::cursor::refuse;
-use kinds::leaf::read_leaf;
+use kinds::leaf::read_scalar;
+use kinds::leaf::read_string;
+use octets::answers::ReadNumber;
 use octets::answers::ReadQuantity;
 use octets::answers::ReadTag;
 use octets::nodes::put_node;
-use octets::presence::is_present;
 use octets::tags::read_tag;
-use octets::units::Occurrences;
 use octets::variable::read_quantity;
 use table::words::alternative_row;
 use table::words::component_default;
-use table::words::component_mark;
 use table::words::component_row;
 use table::words::row_count;
 use table::words::row_first;
 use table::words::row_kind;
 
-// A value of a row at octet `at`, with `count` nodes and `used` contents octets before it.
+// A value of a row at octet `at`, with `count` nodes and `used` contents octets before it: a member alone.
 pub fn read_value(
+    rows: &[u64],
+    items: &[u64],
+    row: usize,
+    msg: &[u8],
+    at: usize,
+    count: usize,
+    used: usize,
+    nodes: &mut [u64],
+    contents: &mut [u8],
+) -> Read
+    requires { ⌜ SoundTable (now rows) (now items) × (row < length (now rows) / rowWidth) × (at ≤ length (now msg)) × (used ≤ at) × (length (now msg) ≤ 65535) ⌝ }
+    ensures { λ r. ⌜ Ran (now (msg .entry)) (read nodeLimit (typeOf (now (rows .entry)) (now (items .entry)) row) (length (now (msg .entry))) (message (drop at (now (msg .entry))) count)) at count used (now (nodes .entry)) (now (contents .entry)) (now (nodes .exit)) (now (contents .exit)) r ⌝ }
+{
+    read_members(
+        rows,
+        items,
+        row + 1,
+        row,
+        false,
+        0,
+        1,
+        msg,
+        at,
+        at,
+        count,
+        used,
+        nodes,
+        contents,
+    )
+}
+
+// n members of a group: listed, from item `first` on, with the preamble at `pre`, or n times a value of the row `inner`.
+// Each is of a row below `above`. A quantity is believed only as far as its members are read.
+fn read_members(
+    rows: &[u64],
+    items: &[u64],
+    above: usize,
+    inner: usize,
+    listed: bool,
+    first: usize,
+    n: usize,
+    msg: &[u8],
+    pre: usize,
+    at: usize,
+    count: usize,
+    used: usize,
+    nodes: &mut [u64],
+    contents: &mut [u8],
+) -> Read
+    requires { ⌜ SoundTable (now rows) (now items) × (above ≤ length (now rows) / rowWidth) × Members (now rows) (now items) above inner listed first n × (pre ≤ length (now msg)) × (at ≤ length (now msg)) × (used ≤ at) × (length (now msg) ≤ 65535) ⌝ }
+    ensures { λ r. ⌜ RanAll (now (msg .entry)) (members (now (rows .entry)) (now (items .entry)) (now (msg .entry)) inner listed pre n first 0 (message (drop at (now (msg .entry))) count)) at count used (now (nodes .entry)) (now (contents .entry)) (now (nodes .exit)) (now (contents .exit)) r ⌝ }
+{
+    let mut p = at;
+    let mut c = count;
+    let mut u = used;
+    let mut x = 0;
+    let mut b = 0;
+    let mut i = 0; // members read
+    while i < n {
+        let mark = member_mark(items, listed, first + i);
+        let row = member_row(items, inner, listed, first + i);
+        match read_member(
+            rows,
+            items,
+            above,
+            row,
+            mark,
+            first + i,
+            msg,
+            pre,
+            b,
+            p,
+            c,
+            u,
+            nodes,
+            contents,
+        ) {
+            Read::Got(next) => {
+                p = next.at;
+                c = next.count;
+                u = next.used;
+                x = next.number;
+            }
+            Read::Refused(f) => {
+                return Read::Refused(f);
+            }
+        }
+        b += bit_of(mark);
+        i += 1;
+    }
+    got(p, c, u, x)
+}
+
+// One member: a component with presence bit b of the preamble at `pre`, its value or the node that stands for it.
+fn read_member(
+    rows: &[u64],
+    items: &[u64],
+    above: usize,
+    row: usize,
+    mark: u64,
+    i: usize,
+    msg: &[u8],
+    pre: usize,
+    b: usize,
+    at: usize,
+    count: usize,
+    used: usize,
+    nodes: &mut [u64],
+    contents: &mut [u8],
+) -> Read
+    requires { ⌜ SoundTable (now rows) (now items) × (above ≤ length (now rows) / rowWidth) × Member (now rows) (now items) above row mark i b × (pre ≤ length (now msg)) × (at ≤ length (now msg)) × (used ≤ at) × (length (now msg) ≤ 65535) ⌝ }
+    ensures { λ r. ⌜ Ran (now (msg .entry)) (memberAt (now (rows .entry)) (now (items .entry)) (now (msg .entry)) mark i row pre b (message (drop at (now (msg .entry))) count)) at count used (now (nodes .entry)) (now (contents .entry)) (now (nodes .exit)) (now (contents .exit)) r ⌝ }
+{
+    if is_missing(msg, pre, b, mark) {
+        let kind = missing_kind(rows, row, mark);
+        return read_missing(
+            kind,
+            component_default(items, i),
+            msg,
+            at,
+            count,
+            used,
+            nodes,
+        );
+    }
+    match read_row(rows, items, row, msg, at, count, used, nodes, contents) {
+        Read::Refused(f) => Read::Refused(f),
+        Read::Got(d) => {
+            // a component equal to its DEFAULT is absent (31.9)
+            if is_default(items, i, mark, d.number) {
+                return refuse(6, at);
+            }
+            got(d.at, d.count, d.used, d.number)
+        }
+    }
+}
+
+// A value by its row's kind.
+fn read_row(
     rows: &[u64],
     items: &[u64],
     row: usize,
@@ -57,8 +198,17 @@ pub fn read_value(
         return refuse(10, at);
     }
     let kind = row_kind(rows, row);
+    if kind < 7 {
+        return match read_scalar(rows, items, row, msg, at) {
+            ReadNumber::Refused(f) => Read::Refused(f),
+            ReadNumber::Got(x) => {
+                put_node(nodes, count, kind, x.value);
+                got(x.next, count + 1, used, x.value)
+            }
+        };
+    }
     if kind < 10 {
-        return read_leaf(rows, items, row, msg, at, count, used, nodes, contents);
+        return read_string(rows, items, row, msg, at, count, used, nodes, contents);
     }
     if kind == 10 {
         return read_sequence(rows, items, row, msg, at, count, used, nodes, contents);
@@ -67,42 +217,6 @@ pub fn read_value(
         return read_sequence_of(rows, items, row, msg, at, count, used, nodes, contents);
     }
     read_choice(rows, items, row, msg, at, count, used, nodes, contents)
-}
-
-// Item i of a row, a component with presence bit b of the preamble at `pre`: its value, or the node that stands for it.
-fn read_component(
-    rows: &[u64],
-    items: &[u64],
-    row: usize,
-    i: usize,
-    msg: &[u8],
-    pre: usize,
-    b: usize,
-    at: usize,
-    count: usize,
-    used: usize,
-    nodes: &mut [u64],
-    contents: &mut [u8],
-) -> Read
-    requires { ⌜ SoundTable (now rows) (now items) × (row < length (now rows) / rowWidth) × (at ≤ length (now msg)) × (used ≤ at) × (i < length (now items) / itemWidth) × Component (now rows) (now items) row i × (pre ≤ length (now msg)) × (b < 1024) × (length (now msg) ≤ 65535) ⌝ }
-    ensures { λ r. ⌜ Ran (now (msg .entry)) (readComponent nodeLimit (componentMark (now (items .entry)) i) (componentDefault (now (items .entry)) i) (typeOf (now (rows .entry)) (now (items .entry)) (componentRow (now (items .entry)) i)) (bitAt (now (msg .entry)) pre b) (length (now (msg .entry))) (message (drop at (now (msg .entry))) count)) at count used (now (nodes .entry)) (now (contents .entry)) (now (nodes .exit)) (now (contents .exit)) r ⌝ }
-{
-    let inner = component_row(items, i) as usize;
-    let mark = component_mark(items, i);
-    if mark == 0 {
-        return read_value(rows, items, inner, msg, at, count, used, nodes, contents);
-    }
-    let given = component_default(items, i);
-    if !is_present(msg, pre, b) {
-        if mark == 1 {
-            return read_missing(0, 0, msg, at, count, used, nodes);
-        }
-        return read_missing(row_kind(rows, inner), given, msg, at, count, used, nodes);
-    }
-    match read_value(rows, items, inner, msg, at, count, used, nodes, contents) {
-        Read::Refused(f) => Read::Refused(f),
-        Read::Got(c) => check_default(mark, given, at, c),
-    }
 }
 
 // Kind 10: preamble, components (16.1).
@@ -131,39 +245,25 @@ fn read_sequence(
     if !is_padded(msg, at, bits) {
         return refuse(6, at);
     }
-    let mut p = at + (bits + 7) / 8;
-    let mut c = count + 1;
-    let mut u = used;
-    let mut b = 0;
-    let mut i = 0;
-    while i < n {
-        match read_component(
-            rows,
-            items,
-            row,
-            first + i,
-            msg,
-            at,
-            b,
-            p,
-            c,
-            u,
-            nodes,
-            contents,
-        ) {
-            Read::Got(next) => {
-                p = next.at;
-                c = next.count;
-                u = next.used;
-            }
-            Read::Refused(f) => {
-                return Read::Refused(f);
-            }
-        }
-        b += is_marked(items, first + i);
-        i += 1;
+    match read_members(
+        rows,
+        items,
+        row,
+        0,
+        true,
+        first,
+        n,
+        msg,
+        at,
+        at + (bits + 7) / 8,
+        count + 1,
+        used,
+        nodes,
+        contents,
+    ) {
+        Read::Refused(f) => Read::Refused(f),
+        Read::Got(d) => got(d.at, d.count, d.used, n as u64),
     }
-    got(p, c, u, n as u64)
 }
 
 // Kind 11: quantity, occurrences (17.1).
@@ -186,60 +286,29 @@ fn read_sequence_of(
         ReadQuantity::Refused(f) => Read::Refused(f),
         ReadQuantity::Got(q) => {
             let many = q.many;
-            read_elements(
+            let n = many.0;
+            put_node(nodes, count, 11, n);
+            match read_members(
                 rows,
                 items,
                 row,
                 inner,
+                false,
+                0,
+                n as usize,
                 msg,
+                at,
                 q.next,
-                many,
-                count,
+                count + 1,
                 used,
                 nodes,
                 contents,
-            )
-        }
-    }
-}
-
-// The elements of a SEQUENCE OF, from `start` on. The quantity is believed only as far as its elements are read.
-fn read_elements(
-    rows: &[u64],
-    items: &[u64],
-    row: usize,
-    inner: usize,
-    msg: &[u8],
-    start: usize,
-    many: Occurrences,
-    count: usize,
-    used: usize,
-    nodes: &mut [u64],
-    contents: &mut [u8],
-) -> Read
-    requires { ⌜ SoundTable (now rows) (now items) × (row < length (now rows) / rowWidth) × (start ≤ length (now msg)) × (used ≤ start) × (count < 4096) × (inner < row) × (length (now msg) ≤ 65535) ⌝ }
-    ensures { λ r. ⌜ Ran (now (msg .entry)) (elements (many .0) (typeOf (now (rows .entry)) (now (items .entry)) inner) (now (msg .entry)) start count) start count used (now (nodes .entry)) (now (contents .entry)) (now (nodes .exit)) (now (contents .exit)) r ⌝ }
-{
-    let n = many.0;
-    put_node(nodes, count, 11, n);
-    let mut p = start;
-    let mut c = count + 1;
-    let mut u = used;
-    let mut i = 0; // elements read
-    while i < n {
-        match read_value(rows, items, inner, msg, p, c, u, nodes, contents) {
-            Read::Got(next) => {
-                p = next.at;
-                c = next.count;
-                u = next.used;
-            }
-            Read::Refused(f) => {
-                return Read::Refused(f);
+            ) {
+                Read::Refused(f) => Read::Refused(f),
+                Read::Got(d) => got(d.at, d.count, d.used, n),
             }
         }
-        i += 1;
     }
-    got(p, c, u, n)
 }
 
 // Kind 12: tag, the chosen alternative (20.1).
@@ -268,11 +337,16 @@ fn read_choice(
                 return refuse(7, at);
             }
             put_node(nodes, count, 12, k as u64);
-            match read_value(
+            match read_members(
                 rows,
                 items,
+                row,
                 alternative_row(items, first + k) as usize,
+                false,
+                0,
+                1,
                 msg,
+                at,
                 g.next,
                 count + 1,
                 used,

@@ -14,8 +14,8 @@ returns : tie.Need-returns
 returns c =
     signed-lacks _ _ _ (c .before .before .before .pre .0) (c .before .if1 .taken) (c .refused .ensures)
 
-read-number-requires : tie.Need-read-number-requires
-read-number-requires c κs = search needs
+number-at-requires : tie.Need-number-at-requires
+number-at-requires c κs = search needs
 
 sign-extend-requires : tie.Need-sign-extend-requires
 sign-extend-requires c κs = search needs
@@ -29,7 +29,7 @@ found-requires c κs = search needs
 returns-2 : tie.Need-returns-2
 returns-2 c =
     signed-there _ _ _ (c .before .before .before .before .before .pre .0) (c .before .before .before .if1 .left)
-    (c .before .before .read-number .ensures .0) (c .before .sign-extend .ensures) (c .found .ensures)
+    (c .before .before .number-at .ensures .0) (c .before .sign-extend .ensures) (c .found .ensures)
 
 pub fixed-signed-spec : {M : Type 1} → statement M
 fixed-signed-spec =
@@ -38,7 +38,7 @@ fixed-signed-spec =
     sub-if1
     refused-requires
     returns
-    read-number-requires
+    number-at-requires
     sign-extend-requires
     add-found
     found-requires

@@ -14,8 +14,8 @@ returns : tie.Need-returns
 returns c =
     unsigned-lacks _ _ _ (c .before .before .before .pre .0) (c .before .if1 .taken) (c .refused .ensures)
 
-read-number-requires : tie.Need-read-number-requires
-read-number-requires c κs = search needs
+number-at-requires : tie.Need-number-at-requires
+number-at-requires c κs = search needs
 
 add-found : tie.Need-add-found
 add-found c = search needs
@@ -26,7 +26,7 @@ found-requires c κs = search needs
 returns-2 : tie.Need-returns-2
 returns-2 c =
     unsigned-there _ _ _ (c .before .before .before .before .pre .0) (c .before .before .if1 .left)
-    (c .before .read-number .ensures .0) (c .found .ensures)
+    (c .before .number-at .ensures .0) (c .found .ensures)
 
 pub fixed-unsigned-spec : {M : Type 1} → statement M
 fixed-unsigned-spec =
@@ -35,7 +35,7 @@ fixed-unsigned-spec =
     sub-if1
     refused-requires
     returns
-    read-number-requires
+    number-at-requires
     add-found
     found-requires
     returns-2)

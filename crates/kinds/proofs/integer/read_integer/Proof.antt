@@ -2,9 +2,10 @@
 use mathlib.Core.Path.{refl}
 use borrow.Author.Tests.{not-true, not-false}
 use borrow.Author.Needs.{needs}
+use Rattle.kinds.proofs.Numbered.{integer-tested, tested-stops, tested-refuses, tested-goes}
+use borrow.Author.Needs.{needs}
 use Rattle.kinds.proofs.integer.read_integer.Statement.{statement}
 use Rattle.kinds.proofs.integer.read_integer.Tie as tie
-use Rattle.kinds.proofs.Numbered.{integer-tested, tested-stops, tested-refuses, tested-goes}
 
 read-form-requires : tie.Need-read-form-requires
 read-form-requires c κs = search needs
@@ -18,48 +19,39 @@ enum-known-n c = search needs
 is-allowed-requires : tie.Need-is-allowed-requires
 is-allowed-requires c κs = search needs
 
-refuse-requires : tie.Need-refuse-requires
-refuse-requires c κs = search needs
+refused-requires : tie.Need-refused-requires
+refused-requires c κs = search needs
 
 returns : tie.Need-returns
 returns c =
-    λ s.
-    tested-refuses
-    (integer-tested _ _ _ (c .before .before .before .before .before .before .before .before .before .pre .1) _ _ _)
-    (c .before .before .before .before .before .before .read-form .ensures) _
-    (c .before .before .before .before .n .given .1) (c .before .before .is-allowed .ensures)
-    (not-true _ (c .before .if1 .taken)) (c .refuse .ensures)
+    let c2 = c .before .before in
+    let c4 = c2 .before .before in
+    let c6 = c4 .before .before in
+    let start = c6 .before .before in
+    λ n.
+    tested-refuses (integer-tested _ _ _ (start .pre) _ _ _) (c6 .read-form .ensures) _ (c4 .n .given .1)
+    (c2 .is-allowed .ensures)
+    (not-true _ (c .before .if1 .taken)) (c .refused .ensures)
 
-put-node-requires : tie.Need-put-node-requires
-put-node-requires c κs = search needs
-
-add-got : tie.Need-add-got
-add-got c = search needs
-
-got-requires : tie.Need-got-requires
-got-requires c κs = search needs
+found-requires : tie.Need-found-requires
+found-requires c κs = search needs
 
 returns-2 : tie.Need-returns-2
 returns-2 c =
-    λ s.
-    tested-stops (integer-tested _ _ _ (c .before .before .before .before .before .before .pre .1) _ _ _)
-    (c .before .before .before .read-form .ensures) _ (c .before .f .given .1) refl
-
-same-length : tie.Need-same-length
-same-length c = search needs
+    let c3 = c .before .before .before in
+    let start = c3 .before .before in
+    λ n. tested-stops (integer-tested _ _ _ (start .pre) _ _ _) (c3 .read-form .ensures) _ (c .before .f .given .1) refl
 
 returns-3 : tie.Need-returns-3
 returns-3 c =
-    λ s.
-    tested-goes
-    (integer-tested _ _ _
-    (c .before .before .before .before .before .before .before .before .before .before .before .before .before .pre .1)
-    _ _ _)
-    (c .before .before .before .before .before .before .before .before .before .before .read-form .ensures) _
-    (c .before .before .before .before .before .before .before .before .n .given .1)
-    (c .before .before .before .before .before .before .is-allowed .ensures)
-    (not-false _ (c .before .before .before .before .before .if1 .left)) (c .before .before .before .put-node .ensures)
-    (c .got .ensures)
+    let c2 = c .before .before in
+    let c4 = c2 .before .before in
+    let c6 = c4 .before .before in
+    let start = c6 .before .before in
+    λ n.
+    tested-goes (integer-tested _ _ _ (start .pre) _ _ _) (c6 .read-form .ensures) _ (c4 .n .given .1)
+    (c2 .is-allowed .ensures)
+    (not-false _ (c .before .if1 .left)) (c .found .ensures)
 
 pub read-integer-spec : {M : Type 1} → statement M
 read-integer-spec =
@@ -69,11 +61,8 @@ read-integer-spec =
     enum-known-f
     enum-known-n
     is-allowed-requires
-    refuse-requires
+    refused-requires
     returns
-    put-node-requires
-    add-got
-    got-requires
+    found-requires
     returns-2
-    same-length
     returns-3)

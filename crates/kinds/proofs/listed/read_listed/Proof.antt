@@ -2,9 +2,10 @@
 use mathlib.Core.Path.{refl}
 use borrow.Author.Tests.{not-true, not-false}
 use borrow.Author.Needs.{needs}
+use Rattle.kinds.proofs.Numbered.{enumerated-tested, tested-stops, tested-refuses, tested-goes}
+use borrow.Author.Needs.{needs}
 use Rattle.kinds.proofs.listed.read_listed.Statement.{statement}
 use Rattle.kinds.proofs.listed.read_listed.Tie as tie
-use Rattle.kinds.proofs.Numbered.{enumerated-tested, tested-stops, tested-refuses, tested-goes}
 
 read-enumerated-requires : tie.Need-read-enumerated-requires
 read-enumerated-requires c κs = search needs
@@ -18,48 +19,40 @@ enum-known-x c = search needs
 is-listed-requires : tie.Need-is-listed-requires
 is-listed-requires c κs = search needs
 
-refuse-requires : tie.Need-refuse-requires
-refuse-requires c κs = search needs
+refused-requires : tie.Need-refused-requires
+refused-requires c κs = search needs
 
 returns : tie.Need-returns
 returns c =
-    λ s.
-    tested-refuses
-    (enumerated-tested _ _ _ (c .before .before .before .before .before .before .before .before .before .before .pre .1)
-    _) (c .before .before .before .before .before .before .read-enumerated .ensures) _
-    (c .before .before .before .before .x .given .1) (c .before .before .is-listed .ensures)
-    (not-true _ (c .before .if1 .taken)) (c .refuse .ensures)
+    let c2 = c .before .before in
+    let c4 = c2 .before .before in
+    let c6 = c4 .before .before in
+    let start = c6 .before .before .before in
+    λ n.
+    tested-refuses (enumerated-tested _ _ _ (start .pre .0) _) (c6 .read-enumerated .ensures) _ (c4 .x .given .1)
+    (c2 .is-listed .ensures)
+    (not-true _ (c .before .if1 .taken)) (c .refused .ensures)
 
-put-node-requires : tie.Need-put-node-requires
-put-node-requires c κs = search needs
-
-add-got : tie.Need-add-got
-add-got c = search needs
-
-got-requires : tie.Need-got-requires
-got-requires c κs = search needs
+found-requires : tie.Need-found-requires
+found-requires c κs = search needs
 
 returns-2 : tie.Need-returns-2
 returns-2 c =
-    λ s.
-    tested-stops (enumerated-tested _ _ _ (c .before .before .before .before .before .before .before .pre .1) _)
-    (c .before .before .before .read-enumerated .ensures) _ (c .before .f .given .1) refl
-
-same-length : tie.Need-same-length
-same-length c = search needs
+    let c3 = c .before .before .before in
+    let start = c3 .before .before .before in
+    λ n. tested-stops (enumerated-tested _ _ _ (start .pre .0) _) (c3 .read-enumerated .ensures) _
+    (c .before .f .given .1) refl
 
 returns-3 : tie.Need-returns-3
 returns-3 c =
-    λ s.
-    tested-goes
-    (enumerated-tested _ _ _
-    (c .before .before .before .before .before .before .before .before .before .before .before .before .before .before
-    .pre .1) _)
-    (c .before .before .before .before .before .before .before .before .before .before .read-enumerated .ensures) _
-    (c .before .before .before .before .before .before .before .before .x .given .1)
-    (c .before .before .before .before .before .before .is-listed .ensures)
-    (not-false _ (c .before .before .before .before .before .if1 .left)) (c .before .before .before .put-node .ensures)
-    (c .got .ensures)
+    let c2 = c .before .before in
+    let c4 = c2 .before .before in
+    let c6 = c4 .before .before in
+    let start = c6 .before .before .before in
+    λ n.
+    tested-goes (enumerated-tested _ _ _ (start .pre .0) _) (c6 .read-enumerated .ensures) _ (c4 .x .given .1)
+    (c2 .is-listed .ensures)
+    (not-false _ (c .before .if1 .left)) (c .found .ensures)
 
 pub read-listed-spec : {M : Type 1} → statement M
 read-listed-spec =
@@ -69,11 +62,8 @@ read-listed-spec =
     enum-known-f
     enum-known-x
     is-listed-requires
-    refuse-requires
+    refused-requires
     returns
-    put-node-requires
-    add-got
-    got-requires
+    found-requires
     returns-2
-    same-length
     returns-3)

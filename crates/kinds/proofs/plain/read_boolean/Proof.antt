@@ -1,95 +1,72 @@
 -- 00, FF, another octet or none. Assumes nothing.
 use borrow.Author.Needs.{needs}
+use Rattle.kinds.proofs.Simple.{boolean-past, boolean-other, boolean-false, boolean-true}
+use borrow.Author.Needs.{needs}
 use Rattle.kinds.proofs.plain.read_boolean.Statement.{statement}
 use Rattle.kinds.proofs.plain.read_boolean.Tie as tie
-use Rattle.kinds.proofs.Simple.{boolean-past, boolean-other, boolean-false, boolean-true}
 
-refuse-requires : tie.Need-refuse-requires
-refuse-requires c κs = search needs
+refused-requires : tie.Need-refused-requires
+refused-requires c κs = search needs
 
 returns : tie.Need-returns
 returns c =
-    λ b. boolean-past _ (c .before .before .before .before .pre .1) (c .before .if1 .taken) (c .refuse .ensures)
+    let start = c .before .before .before in
+    λ n. boolean-past _ (start .pre) (c .before .if1 .taken) (c .refused .ensures)
 
 octet-requires : tie.Need-octet-requires
 octet-requires c κs = search needs
 
-put-node-requires : tie.Need-put-node-requires
-put-node-requires c κs = search needs
+add-found : tie.Need-add-found
+add-found c = search needs
 
-add-got : tie.Need-add-got
-add-got c = search needs
-
-add-got-2 : tie.Need-add-got-2
-add-got-2 c = search needs
-
-got-requires : tie.Need-got-requires
-got-requires c κs = search needs
-
-same-length : tie.Need-same-length
-same-length c = search needs
+found-requires : tie.Need-found-requires
+found-requires c κs = search needs
 
 returns-2 : tie.Need-returns-2
 returns-2 c =
-    λ b.
-    boolean-false _ (c .before .before .before .before .before .before .before .before .before .before .pre .1)
-    (c .before .before .before .before .before .before .before .if1 .left)
-    (c .before .before .before .before .before .before .octet .ensures .0)
-    (c .before .before .before .before .before .if2 .taken) (c .before .before .before .put-node .ensures)
-    (c .got .ensures)
+    let c2 = c .before .before in
+    let c3 = c2 .before in
+    let start = c3 .before .before in
+    λ n. boolean-false _ (start .pre) (c3 .if1 .left) (c2 .octet .ensures .0) (c .before .if2 .taken)
+    (c .found .ensures)
 
-refuse-requires-2 : tie.Need-refuse-requires-2
-refuse-requires-2 c κs = search needs
+refused-requires-2 : tie.Need-refused-requires-2
+refused-requires-2 c κs = search needs
 
 returns-3 : tie.Need-returns-3
 returns-3 c =
-    λ b.
-    boolean-other _ (c .before .before .before .before .before .before .before .pre .1)
-    (c .before .before .before .before .if1 .left) (c .before .before .before .octet .ensures .0)
-    (c .before .before .if2 .left) (c .before .if3 .taken) (c .refuse2 .ensures)
+    let c2 = c .before .before in
+    let c3 = c2 .before in
+    let c4 = c3 .before in
+    let start = c4 .before .before in
+    λ n. boolean-other _ (start .pre) (c4 .if1 .left) (c3 .octet .ensures .0) (c2 .if2 .left) (c .before .if3 .taken)
+    (c .refused2 .ensures)
 
-put-node-requires-2 : tie.Need-put-node-requires-2
-put-node-requires-2 c κs = search needs
+add-found-2 : tie.Need-add-found-2
+add-found-2 c = search needs
 
-add-got-3 : tie.Need-add-got-3
-add-got-3 c = search needs
-
-add-got-4 : tie.Need-add-got-4
-add-got-4 c = search needs
-
-got-requires-2 : tie.Need-got-requires-2
-got-requires-2 c κs = search needs
-
-same-length-2 : tie.Need-same-length-2
-same-length-2 c = search needs
+found-requires-2 : tie.Need-found-requires-2
+found-requires-2 c κs = search needs
 
 returns-4 : tie.Need-returns-4
 returns-4 c =
-    λ b.
-    boolean-true _ (c .before .before .before .before .before .before .before .before .before .before .before .pre .1)
-    (c .before .before .before .before .before .before .before .before .if1 .left)
-    (c .before .before .before .before .before .before .before .octet .ensures .0)
-    (c .before .before .before .before .before .if3 .left) (c .before .before .before .put-node2 .ensures)
-    (c .got2 .ensures)
+    let c3 = c .before .before .before in
+    let c4 = c3 .before in
+    let start = c4 .before .before in
+    λ n. boolean-true _ (start .pre) (c4 .if1 .left) (c3 .octet .ensures .0) (c .before .if3 .left) (c .found2 .ensures)
 
 pub read-boolean-spec : {M : Type 1} → statement M
 read-boolean-spec =
     tie.close
     (tie.spec
-    refuse-requires
+    refused-requires
     returns
     octet-requires
-    put-node-requires
-    add-got
-    add-got-2
-    got-requires
-    same-length
+    add-found
+    found-requires
     returns-2
-    refuse-requires-2
+    refused-requires-2
     returns-3
-    put-node-requires-2
-    add-got-3
-    add-got-4
-    got-requires-2
-    same-length-2
+    add-found-2
+    found-requires-2
     returns-4)

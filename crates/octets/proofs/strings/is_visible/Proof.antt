@@ -1,45 +1,35 @@
 -- Whether n octets are characters 32 to 126.
--- The loop's invariant: the octets from i on are visible exactly if all are; its measure: the octets left.
+-- The loop's invariant: all are visible exactly if the least and the greatest so far are, and the octets from i on;
+-- its measure: the octets left.
 -- Assumes nothing.
-use mathlib.Core.Path.{_≡_, sym, _∙_}
-use Prim.Native.Nat.{_≤_, _-_, _+_}
+use mathlib.Core.Path.{refl}
+use Prim.Native.Nat.{_≤_, _-_}
 use native.Mathlib.Omega.{arith}
-use lib.ListN.{take, drop}
 use borrow.Author.Needs.{needs}
-use Rattle.x696.specs.String.{visible}
-use Rattle.octets.proofs.Runs.{visible-start, visible-low, visible-high, visible-more, visible-end}
+use Rattle.octets.proofs.Visible.{VisibleFrom, visible-start, visible-turn, visible-not, visible-by}
 use Rattle.octets.proofs.strings.is_visible.Statement.{statement}
 use Rattle.octets.proofs.strings.is_visible.Tie as tie
 
 abbrev Inv-loop : tie.InvT-loop
-Inv-loop msg start n i₀ i =
-    (i ≤ n) × (visible (take n (drop start msg)) ≡ visible (take (n - i) (drop (start + i) msg)))
+Inv-loop msg start n low₀ high₀ i₀ low high i = (i ≤ n) × VisibleFrom msg start n i low high
 
 abbrev μ-loop : tie.MeasureT-loop
-μ-loop msg start n i₀ i = n - i
+μ-loop msg start n low₀ high₀ i₀ low high i = n - i
 
 loop-holds : tie.Need-loop-holds Inv-loop μ-loop
-loop-holds c = let a = c .before .args in (search needs, visible-start (a .msg .now) (a .start) (a .n))
+loop-holds c = (search needs, visible-start _ _ _)
 
-add-octet : tie.Need-add-octet Inv-loop μ-loop
-add-octet c = search needs
+add-x : tie.Need-add-x Inv-loop μ-loop
+add-x c = search needs
 
-octet-requires : tie.Need-octet-requires Inv-loop μ-loop
-octet-requires c κs = search needs
+shared-slice-read-x : tie.Need-shared-slice-read-x Inv-loop μ-loop
+shared-slice-read-x c = search needs
 
-returns : tie.Need-returns Inv-loop μ-loop
-returns c =
-    let l = c .before .before .before in
-    let a = l .before .before .args in
-    sym (l .loop .inv .1 ∙ visible-low (a .msg .now) (a .start) (a .n) (l .loop .i) _ (omega arith) (omega arith)
-    (c .before .octet .ensures .0) (c .if1 .taken))
+lesser-requires : tie.Need-lesser-requires Inv-loop μ-loop
+lesser-requires c κs = search needs
 
-returns-2 : tie.Need-returns-2 Inv-loop μ-loop
-returns-2 c =
-    let l = c .before .before .before .before in
-    let a = l .before .before .args in
-    sym (l .loop .inv .1 ∙ visible-high (a .msg .now) (a .start) (a .n) (l .loop .i) _ (omega arith) (omega arith)
-    (c .before .before .octet .ensures .0) (c .before .if1 .left) (c .if2 .taken))
+greater-requires : tie.Need-greater-requires Inv-loop μ-loop
+greater-requires c κs = search needs
 
 add-i : tie.Need-add-i Inv-loop μ-loop
 add-i c = search needs
@@ -48,19 +38,17 @@ loop-less : tie.Need-loop-less Inv-loop μ-loop
 loop-less c = search needs
 
 loop-again : tie.Need-loop-again Inv-loop μ-loop
-loop-again c =
-    let l = c .before .before .before .before in
-    let a = l .before .before .args in (
-      search needs,
-      l .loop .inv .1 ∙ visible-more (a .msg .now) (a .start) (a .n) (l .loop .i) _ (omega arith) (omega arith)
-          (c .before .before .octet .ensures .0) (c .before .if1 .left) (c .if2 .left),
-    )
+loop-again c = (
+  search needs,
+  visible-turn _ _ _ _ _ _ _ _ _ (c .before .before .before .before .before .before .pre)
+      (omega arith) (c .before .before .before .before .loop .inv .1) refl (c .before .lesser .ensures) (c .greater .ensures),
+)
 
-returns-3 : tie.Need-returns-3 Inv-loop μ-loop
-returns-3 c =
-    let l = c .before .loop in
-    let a = c .before .before .before .args in
-    sym (l .inv .1 ∙ visible-end (a .msg .now) (a .start) (a .n) (l .i) (omega arith))
+returns : tie.Need-returns Inv-loop μ-loop
+returns c = visible-not _ _ _ _ _ _ (omega arith) (c .before .before .loop .inv .1) (c .if1 .taken)
+
+returns-2 : tie.Need-returns-2 Inv-loop μ-loop
+returns-2 c = visible-by _ _ _ _ _ _ (omega arith) (c .before .before .loop .inv .1) (c .if1 .left)
 
 pub is-visible-spec : {M : Type 1} → statement M
 is-visible-spec =
@@ -69,11 +57,12 @@ is-visible-spec =
     Inv-loop
     μ-loop
     loop-holds
-    add-octet
-    octet-requires
-    returns
-    returns-2
+    add-x
+    shared-slice-read-x
+    lesser-requires
+    greater-requires
     add-i
     loop-less
     loop-again
-    returns-3)
+    returns
+    returns-2)

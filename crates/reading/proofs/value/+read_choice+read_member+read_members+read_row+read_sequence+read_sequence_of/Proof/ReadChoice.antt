@@ -6,9 +6,11 @@ use borrow.Author.Needs.{needs}
 use Rattle.x696.specs.TableRows.{choice-row}
 use Rattle.kinds.proofs.Ran
 use Rattle.reading.proofs.Alternatives
+use Rattle.reading.proofs.Chains
+use Rattle.reading.proofs.Members as Laws
 use Rattle.reading.proofs.value.read_choice.Reads.{Post}
-use Rattle.reading.proofs.value.+read_choice+read_component+read_elements+read_sequence+read_sequence_of+read_value.Lts-read_choice as lts
-use Rattle.reading.proofs.value.+read_choice+read_component+read_elements+read_sequence+read_sequence_of+read_value.Proof.Base.{
+use Rattle.reading.proofs.value.+read_choice+read_member+read_members+read_row+read_sequence+read_sequence_of.Lts-read_choice as lts
+use Rattle.reading.proofs.value.+read_choice+read_member+read_members+read_row+read_sequence+read_sequence_of.Proof.Base.{
   read-choice-calls as calls,
   read-choice-at as here,
 }
@@ -36,8 +38,7 @@ find-tag-requires t c κs =
     let sound = start .pre .1 .0 .row (start .args .row) (start .pre .1 .1) in
     let row = choice-row _ _ _ sound (start .pre .1 .5) in (
       omega (arith, row .range, c5 .row-first .ensures, c4 .row-count .ensures),
-      λ i j h g. rw (c5 .row-first .ensures)
-          (row .ascends i j h (rw (← c4 .row-count .ensures) g)),
+      λ i j h g. rw (c5 .row-first .ensures) (row .ascends i j h (rw (← c4 .row-count .ensures) g)),
     )
 
 pub refuse-requires : (t : ℕ) → lts.Need-refuse-requires (calls t) (here t) Post
@@ -78,11 +79,11 @@ alternative-row-requires t c κs =
     let row = choice-row _ _ _ sound (start .pre .1 .5) in
     omega (arith, row .range, c11 .row-first .ensures, c10 .row-count .ensures, c4 .if1 .left)
 
-pub add-read-value : (t : ℕ) → lts.Need-add-read-value (calls t) (here t) Post
-add-read-value t c = search needs
+pub add-read-members : (t : ℕ) → lts.Need-add-read-members (calls t) (here t) Post
+add-read-members t c = search needs
 
-pub read-value-requires : (t : ℕ) → lts.Need-read-value-requires (calls t) (here t) Post
-read-value-requires t c κs =
+pub read-members-requires : (t : ℕ) → lts.Need-read-members-requires (calls t) (here t) Post
+read-members-requires t c κs =
     let c2 = c .before .before in
     let c7 = c2 .before .before .before .before .before in
     let c8 = c7 .before in
@@ -99,7 +100,9 @@ read-value-requires t c κs =
       omega arith,
       (
         start .pre .1 .0,
-        omega (arith, lt, start .pre .1 .1),
+        omega (arith, start .pre .1 .1),
+        Laws.members-alone lt,
+        start .pre .1 .2,
         y .inside,
         omega (arith, y .ahead, start .pre .1 .3),
         start .pre .1 .6,
@@ -141,10 +144,11 @@ returns-3 t c =
     let c22 = c21 .before in
     let start = c22 .before .before .before .before .before .before in
     let sound = start .pre .1 .0 .row (start .args .row) (start .pre .1 .1) in
+    let one = Chains.alone-ran _ (Laws.alone-members _ _ _ _ _ _ _) (c7 .read-members .ensures) in
     Ran.ran-fault _ (Alternatives.chosen-stops _ _ _ _ _ _ (start .pre .1 .2) sound (start .pre .1 .5)
     (c20 .read-tag .ensures) _ _ _ _ (c18 .g .given .1) (c22 .row-first .ensures) (c21 .row-count .ensures)
-    (c16 .find-tag .ensures .0) (c15 .if1 .left) (c10 .alternative-row .ensures)
-    (c7 .read-value .ensures .stopped _ (c .before .f2 .given .1)))
+    (c16 .find-tag .ensures .0)
+    (c15 .if1 .left) (c10 .alternative-row .ensures) (one .stopped _ (c .before .f2 .given .1)))
 
 pub same-length-3 : (t : ℕ) → lts.Need-same-length-3 (calls t) (here t) Post
 same-length-3 t c = search needs
@@ -166,7 +170,9 @@ returns-4 t c =
     let c23 = c22 .before in
     let start = c23 .before .before .before .before .before .before in
     let sound = start .pre .1 .0 .row (start .args .row) (start .pre .1 .1) in
-    Alternatives.chosen-goes _ _ _ _ _ _ (start .pre .1 .2) sound (start .pre .1 .5) (c21 .read-tag .ensures) _ _ _ _
-    (c19 .g .given .1) (c23 .row-first .ensures) (c22 .row-count .ensures) (c17 .find-tag .ensures .0) (c16 .if1 .left)
-    (c11 .alternative-row .ensures) _ (c14 .put-node .ensures) (c8 .read-value .ensures .went _ (c2 .d .given .1))
+    let one = Chains.alone-ran _ (Laws.alone-members _ _ _ _ _ _ _) (c8 .read-members .ensures) in
+    Alternatives.chosen-goes _ _ _ _ _ _ (start .pre .1 .2) sound (start .pre .1 .5)
+    (c21 .read-tag .ensures) _ _ _ _ (c19 .g .given .1) (c23 .row-first .ensures) (c22 .row-count .ensures)
+    (c17 .find-tag .ensures .0)
+    (c16 .if1 .left) (c11 .alternative-row .ensures) _ (c14 .put-node .ensures) (one .went _ (c2 .d .given .1))
     (c .got .ensures)
