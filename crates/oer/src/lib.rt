@@ -1,1 +1,2 @@
-// The theorems that answer the demands stand in specs/.
+// The public operations. None asks anything of its caller: each checks its table, its row and all it is lent.
+pub mod operations;

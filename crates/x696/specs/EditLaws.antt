@@ -146,8 +146,8 @@ module _ (rows items : List ℕ) (r : ℕ) (usable : asked rows items r ≡ done
       read-value (encode t w) w (message [] (size w))
       (readMessage-iff t (encode t w) w (message [] (size w)) octets .1 (f, refl, few, short, refl))
 
-result-done : (os out : List ℕ) → resultOf (record { reply = doneReply 0 (length os); out = over os out }) ≡ os
-unfolding resultOf over
+pub result-done : (os out : List ℕ) → resultOf (record { reply = doneReply 0 (length os); out = over os out }) ≡ os
+unfolding over
 result-done os out = take-append-seam os (drop (length os) out)
 
 -- ---- what an edit that is DONE did

@@ -32,12 +32,15 @@ pub mod PresencePlace
 pub mod Frame
 pub mod Setting
 pub mod Reply
+pub mod RefusalTable
 pub mod Operations
 pub mod Editing
 pub mod Result
 pub mod Edits
 pub mod Component
 pub mod LongerRoad
+pub mod Usable
+pub mod Replying
 -- Document 01's twelve cases
 pub mod Computing
 pub mod Cases
@@ -61,6 +64,14 @@ pub mod Complete
 pub mod Sound
 pub mod Unique
 pub mod EncodeLaws
+-- Laws: what every end of a reading keeps
+pub mod Ends
+pub mod Refusals
+pub mod ListRefusals
+pub mod Answering
+pub mod AnswerLaws
+pub mod LentLaws
+pub mod ReplyLaws
 -- Laws: value lists
 pub mod WalkSound
 pub mod WalkComplete
@@ -92,3 +103,6 @@ pub mod DecodeLaws
 pub mod LongerRoadLaws
 pub mod ComponentLaws
 pub mod ReadingLaws
+-- Laws: what the operations take and hand out
+pub mod OperationLaws
+pub mod RoundTrip

@@ -16,14 +16,19 @@ use Rattle.x696.specs.Operations.{walkList, Decoded, Written}
 unfoldable pub isDone : Reply → Bool
 isDone r = eqb (r .part) 0 && eqb (r .number) 0
 
--- the octets that the reply counts
-unfoldable pub resultOf : Written → List ℕ
+-- what an operation hands out: as many words or octets as its counts say
+abbrev pub listOf : Decoded → List ℕ
+listOf d = take (d .reply .nodes * nodeWidth) (d .nodes)
+
+abbrev pub contentsIn : Decoded → List ℕ
+contentsIn d = take (d .reply .octets) (d .contents)
+
+abbrev pub resultOf : Written → List ℕ
 resultOf w = take (w .reply .octets) (w .out)
 
 -- the refusal, or the value whose list has the nodes and contents octets that the reply counts
 unfoldable pub decoded : Ty → Decoded → Answer Val
 decoded t d =
     choose (isDone (d .reply))
-    (λ _. inPart 2
-    (walkList 0 t (take (d .reply .nodes * nodeWidth) (d .nodes)) (take (d .reply .octets) (d .contents))))
+    (λ _. inPart 2 (walkList 0 t (listOf d) (contentsIn d)))
     (λ _. refusal (d .reply .number) (d .reply .part) (d .reply .place))

@@ -46,12 +46,12 @@ record AllReadAs (limit : ℕ) (t : Ty) (s : List ℕ) (c n : ℕ) (vs : Vals) (
   nodes : r .count ≡ c + sizes vs
   within : c ≤ limit → r .count ≤ limit
 
-record ComponentReadAs (limit m d : ℕ) (t : Ty) (bits s : List ℕ) (c : ℕ) (v : Val) (r : Message) : Type 0 where
-  fits : FitsComponent m d t v
-  shown : bits ≡ presenceBits m d t v ++ drop (presenceCount m) bits
-  from : s ≡ ownOctets m d t v ++ r .octets
-  nodes : r .count ≡ c + size v
-  within : r .count ≤ limit
+pub record ComponentReadAs (limit m d : ℕ) (t : Ty) (bits s : List ℕ) (c : ℕ) (v : Val) (r : Message) : Type 0 where
+  pub fits : FitsComponent m d t v
+  pub shown : bits ≡ presenceBits m d t v ++ drop (presenceCount m) bits
+  pub from : s ≡ ownOctets m d t v ++ r .octets
+  pub nodes : r .count ≡ c + size v
+  pub within : r .count ≤ limit
 
 record ComponentsReadAs (limit : ℕ) (is : Items) (bits s : List ℕ) (c : ℕ) (vs : Vals) (r : Message) : Type 0 where
   fits : FitComponents is vs
@@ -109,7 +109,7 @@ module _ (limit : ℕ) where
       })
 
   -- ---- one component
-  component-sound : (m d : ℕ) (t : Ty) (f : Message → Outcome Message Val)
+  pub component-sound : (m d : ℕ) (t : Ty) (f : Message → Outcome Message Val)
       → ((s : Message) (v : Val) (r : Message) → Below 8 (s .octets) → f s ≡ got v r
       → ReadAs limit t (s .octets) (s .count) v r)
       → (bits : List ℕ) (end : ℕ) (s : Message) {v : Val} {r : Message} → Below 8 (s .octets) → Below 1 bits
