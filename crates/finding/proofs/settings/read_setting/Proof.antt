@@ -1,0 +1,53 @@
+-- The refusal, ABSENT, or the value's own setting.
+-- Assumes nothing.
+use Rattle.finding.proofs.SettingLaws.{setting-refused, setting-absent, setting-there, single-small}
+use borrow.Author.Needs.{needs}
+use Rattle.finding.proofs.settings.read_setting.Statement.{statement}
+use Rattle.finding.proofs.settings.read_setting.Tie as tie
+
+find-in-requires : tie.Need-find-in-requires
+find-in-requires c κs = search needs
+
+enum-known-r : tie.Need-enum-known-r
+enum-known-r c = search needs
+
+enum-known-w : tie.Need-enum-known-w
+enum-known-w c = search needs
+
+returns : tie.Need-returns
+returns c = setting-absent _ _ _ _ _ (c .before .before .before .before .before .find-in .ensures .went _ (c .before .before .before .w .given .1)) (c .if1 .taken)
+
+row-kind-requires : tie.Need-row-kind-requires
+row-kind-requires c κs = c .before .before .before .before .before .find-in .ensures .went _ (c .before .before .before .w .given .1) .spot .inside
+
+row-flags-requires : tie.Need-row-flags-requires
+row-flags-requires c κs = c .before .before .before .before .before .before .find-in .ensures .went _ (c .before .before .before .before .w .given .1) .spot .inside
+
+row-a-requires : tie.Need-row-a-requires
+row-a-requires c κs = c .before .before .before .before .before .before .before .find-in .ensures .went _ (c .before .before .before .before .before .w .given .1) .spot .inside
+
+setting-of-requires : tie.Need-setting-of-requires
+setting-of-requires c κs = single-small _ _ _ _ _ (c .before .before .before .before .before .before .before .before .find-in .ensures .went _ (c .before .before .before .before .before .before .w .given .1)) (c .before .before .before .if1 .left) (c .before .before .row-kind .ensures)
+
+returns-2 : tie.Need-returns-2
+returns-2 c = setting-refused _ _ _ _ _ (c .before .before .before .find-in .ensures .stopped _ (c .before .r .given .1))
+
+returns-3 : tie.Need-returns-3
+returns-3 c =
+    setting-there _ _ _ _ _ (c .before .before .before .before .before .before .before .before .before .find-in .ensures .went _ (c .before .before .before .before .before .before .before .w .given .1)) (c .before .before .before .before .if1 .left) (c .before .before .before .row-kind .ensures)
+    (c .before .before .row-flags .ensures) (c .before .row-a .ensures) (c .setting-of .ensures)
+
+pub read-setting-spec : {M : Type 1} → statement M
+read-setting-spec =
+    tie.close
+    (tie.spec
+    find-in-requires
+    enum-known-r
+    enum-known-w
+    returns
+    row-kind-requires
+    row-flags-requires
+    row-a-requires
+    setting-of-requires
+    returns-2
+    returns-3)

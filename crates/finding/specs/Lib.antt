@@ -1,0 +1,6 @@
+pub mod Passing
+pub mod Leading
+pub mod Following
+pub mod Placing
+pub mod Settings
+pub mod Texts
