@@ -9,4 +9,6 @@ pub mod Followings
 pub mod PlaceLaws
 pub mod Floats
 pub mod SettingLaws
+pub mod Flats
+pub mod FlatWords
 pub mod TextLaws

@@ -229,8 +229,8 @@ module _ (rows items msg : List ℕ) (row at count : ℕ) (inside : at ≤ lengt
               behind = λ _. (
                 omega (arith, ef, ex, known .range, eg, en),
                 (λ j l.
-                let e : o .after + j ≡ rowFirst rows row + (i + 1 + j) = omega (arith, ef, eg) in
-                rw e (known .component (i + 1 + j) (omega (arith, ex, en, l)))),
+                    let e : o .after + j ≡ rowFirst rows row + (i + 1 + j) = omega (arith, ef, eg) in
+                    rw e (known .component (i + 1 + j) (omega (arith, ex, en, l)))),
                 omega (arith, el, ex, few, known .range, some, presence-few (componentMark items (g + i))),
               );
             }

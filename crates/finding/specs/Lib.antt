@@ -4,3 +4,4 @@ pub mod Following
 pub mod Placing
 pub mod Settings
 pub mod Texts
+pub mod Flat

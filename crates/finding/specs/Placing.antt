@@ -38,12 +38,12 @@ pub record Placed (rows items : List ℕ) (row : ℕ) (msg path : List ℕ) (a :
   pub spot : Spotted rows items 0 0 (typeOf rows items row) 0 0 0 whole path (w .spot)
   pub inside : w .spot .end ≤ length msg
   pub is : a ≡ done (record {
-      type = typeOf rows items row;
-      whole = whole;
-      mark = w .spot .mark;
-      its = typeOf rows items (w .spot .row);
-      value = spot .value;
-    })
+    type = typeOf rows items row;
+    whole = whole;
+    mark = w .spot .mark;
+    its = typeOf rows items (w .spot .row);
+    value = spot .value;
+  })
 
 pub record PlaceAnswer (rows items : List ℕ) (row : ℕ) (msg path : List ℕ) (a : Answer Place) (r : FoundIn) : Type 0 where
   pub went : (w : Way) → r ≡ Found w → Placed rows items row msg path a w

@@ -25,7 +25,11 @@ fn is_absent(mark: u64, msg: &[u8], pre: usize, b: usize) -> bool
     requires { ⌜ (pre ≤ length (now msg)) × (b < 1024) ⌝ }
     ensures { λ r. ⌜ r ≡ eqb mark 1 && not (eqb (bitAt (now (msg .entry)) pre b) 1) ⌝ }
 {
-    if mark == 1 { !is_present(msg, pre, b) } else { false }
+    if mark == 1 {
+        !is_present(msg, pre, b)
+    } else {
+        false
+    }
 }
 
 // The path ends here.
@@ -119,15 +123,47 @@ pub fn follow(
 {
     if path.len() <= step {
         return follow_end(
-            rows, items, row, mark, given, msg, pre, b, at, count, path, step,
+            rows,
+            items,
+            row,
+            mark,
+            given,
+            msg,
+            pre,
+            b,
+            at,
+            count,
+            path,
+            step,
         );
     }
     match open_component(
-        rows, items, row, mark, given, msg, pre, b, at, count, path[step],
+        rows,
+        items,
+        row,
+        mark,
+        given,
+        msg,
+        pre,
+        b,
+        at,
+        count,
+        path[step],
     ) {
         Opened::Refused(f) => Followed::Refused(f),
         Opened::Nowhere => follow_nowhere(
-            rows, items, row, mark, given, msg, pre, b, at, count, path, step,
+            rows,
+            items,
+            row,
+            mark,
+            given,
+            msg,
+            pre,
+            b,
+            at,
+            count,
+            path,
+            step,
         ),
         Opened::Into(o) => match follow(
             rows,

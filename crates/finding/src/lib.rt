@@ -1,4 +1,5 @@
 // Finding a component at a path, and reading it. One pass over the message reads all of it, and follows the path on the way.
+pub mod flat;
 pub mod following;
 pub mod numbers;
 pub mod opening;
