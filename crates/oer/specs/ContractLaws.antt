@@ -4,15 +4,19 @@ use mathlib.Core.Path.{_≡_, refl, sym, _∙_}
 use mathlib.Core.Logic.{_↔_}
 use mathlib.Core.List.{List}
 use Prim.Native.Nat.{ℕ}
+use lib.ListN.{take, drop}
 use Rattle.x696.specs.Value.{size, contents}
 use Rattle.x696.specs.TableFault.{TableFault, sound, badSize, badRow, tableFault}
 use Rattle.x696.specs.Reply.{Answer, refusal, done, answer}
 use Rattle.x696.specs.Operations.{checkReply, check, valueIn, validate, Decoded, decodable, decode, octetsFor, measure}
 use Rattle.x696.specs.Operations.{Written, written, encodeList}
-use Rattle.x696.specs.Editing.{edit}
+use Rattle.x696.specs.Setting.{Setting as Meant, Shown, fallback, partOf}
+use Rattle.x696.specs.Editing.{edit, readSetting, showText, shownOctets}
 use Rattle.table.specs.Replies.{asReply}
 use Rattle.table.specs.declared.reply.Reply.{Reply}
-use Rattle.oer.specs.Contracts.{Checks, Validates, Decodes, Measures, Writes, Encodes, Edits}
+use Rattle.finding.specs.declared.settings.Setting.{Setting}
+use Rattle.finding.specs.Settings.{settingAs, answerAs}
+use Rattle.oer.specs.Contracts.{Checks, Validates, Decodes, Measures, Writes, Encodes, Edits, Reads, Shows}
 
 -- ---- by cases, both ways
 fault-cases : (P : TableFault → Type 0) (f : TableFault) → (f ≡ badSize → P badSize)
@@ -117,6 +121,39 @@ pub edit-iff : (rows items : List ℕ) (row : ℕ) (msg path ws cs out out′ : 
 unfolding edit
 edit-iff rows items row msg path ws cs out out′ r = writes-iff _ out out′ r
 
+-- ---- settings and texts: nothing lent
+setting-cases : (r : Setting) (a : Answer Meant) → ((n q p : ℕ) → a ≡ refusal n q p → r ≡ answerAs (refusal n q p))
+    → ((s : Meant) → a ≡ done s → r ≡ settingAs s)
+    → r ≡ answerAs a
+unfolding answerAs
+setting-cases r (refusal n q p) refuses hands = refuses n q p refl
+setting-cases r (done s) refuses hands = hands s refl
+
+pub setting-iff : (rows items : List ℕ) (row : ℕ) (msg path : List ℕ) (r : Setting)
+    → Reads rows items row msg path r ↔ (r ≡ answerAs (readSetting rows items row msg path))
+unfolding answerAs
+setting-iff rows items row msg path r = (
+  (λ c. setting-cases r _ (c .refuses) (c .hands)),
+  λ is. record { refuses = λ n q p e. rw e at is; hands = λ s e. rw e at is },
+)
+
+shown-cases : (msg instead shown : List ℕ) (a : Shown)
+    → ((start n : ℕ) → a ≡ partOf start n → shown ≡ take n (drop start msg))
+    → (a ≡ fallback → shown ≡ instead)
+    → shown ≡ shownOctets a msg instead
+unfolding shownOctets
+shown-cases msg instead shown fallback part whole = whole refl
+shown-cases msg instead shown (partOf start n) part whole = part start n refl
+
+pub text-iff : (rows items : List ℕ) (row : ℕ) (msg path instead shown : List ℕ)
+    → Shows rows items row msg path instead shown
+    ↔ (shown ≡ shownOctets (showText rows items row msg path) msg instead)
+unfolding shownOctets
+text-iff rows items row msg path instead shown = (
+  (λ c. shown-cases msg instead shown _ (c .part) (c .whole)),
+  λ is. record { part = λ start n e. rw e at is; whole = λ e. rw e at is },
+)
+
 -- ---- two outcomes of one contract
 both : {A : Type 0} {x y z : A} → x ≡ z → y ≡ z → x ≡ y
 both p q = p ∙ sym q
@@ -158,3 +195,12 @@ module _ (rows items : List ℕ) (row : ℕ) where
   edit-one msg path ws cs out c c′ =
       written-one (edit-iff rows items row msg path ws cs out _ _ .0 c)
       (edit-iff rows items row msg path ws cs out _ _ .0 c′)
+
+  pub setting-one : (msg path : List ℕ) {r r′ : Setting} → Reads rows items row msg path r
+      → Reads rows items row msg path r′ → r ≡ r′
+  setting-one msg path c c′ = both (setting-iff rows items row msg path _ .0 c) (setting-iff rows items row msg path _ .0 c′)
+
+  pub text-one : (msg path instead : List ℕ) {shown shown′ : List ℕ} → Shows rows items row msg path instead shown
+      → Shows rows items row msg path instead shown′ → shown ≡ shown′
+  text-one msg path instead c c′ =
+      both (text-iff rows items row msg path instead _ .0 c) (text-iff rows items row msg path instead _ .0 c′)

@@ -5,14 +5,17 @@
 use mathlib.Core.Path.{_≡_}
 use mathlib.Core.List.{List}
 use Prim.Native.Nat.{ℕ}
-use lib.ListN.{length}
+use lib.ListN.{length, take, drop}
 use Rattle.x696.specs.Value.{Val, size, nodes, contents}
 use Rattle.x696.specs.TableFault.{sound, badSize, badRow, tableFault}
 use Rattle.x696.specs.Reply.{Answer, refusal, done, then, refusalReply, doneReply}
 use Rattle.x696.specs.Operations.{valueIn, decodable, octetsFor, roomFor, over}
-use Rattle.x696.specs.Editing.{editedOctets}
+use Rattle.x696.specs.Setting.{Setting as Meant, fallback, partOf}
+use Rattle.x696.specs.Editing.{editedOctets, readSetting, showText}
 use Rattle.table.specs.Replies.{asReply}
 use Rattle.table.specs.declared.reply.Reply.{Reply}
+use Rattle.finding.specs.declared.settings.Setting.{Setting}
+use Rattle.finding.specs.Settings.{settingAs, answerAs}
 
 -- check a table: 1 TABLE SIZE, 2 TABLE ROW at the first row that breaks a rule, or DONE
 pub record Checks (rows items : List ℕ) (r : Reply) : Type 0 where
@@ -52,3 +55,13 @@ Encodes rows items row ws cs out out′ r =
 abbrev pub Edits : (rows items : List ℕ) (row : ℕ) (msg path ws cs out out′ : List ℕ) (r : Reply) → Type 0
 Edits rows items row msg path ws cs out out′ r =
     Writes (then (editedOctets rows items row msg path ws cs) λ os. roomFor os out) out out′ r
+
+-- read a single setting: the refusal's three numbers, or the setting as document 01 numbers and values its cases
+pub record Reads (rows items : List ℕ) (row : ℕ) (msg path : List ℕ) (r : Setting) : Type 0 where
+  pub refuses : (n q p : ℕ) → readSetting rows items row msg path ≡ refusal n q p → r ≡ answerAs (refusal n q p)
+  pub hands : (s : Meant) → readSetting rows items row msg path ≡ done s → r ≡ settingAs s
+
+-- show a text: the part of the message that holds the string's octets, or the caller's whole fallback
+pub record Shows (rows items : List ℕ) (row : ℕ) (msg path instead shown : List ℕ) : Type 0 where
+  pub part : (start n : ℕ) → showText rows items row msg path ≡ partOf start n → shown ≡ take n (drop start msg)
+  pub whole : showText rows items row msg path ≡ fallback → shown ≡ instead

@@ -5,7 +5,8 @@ use mathlib.Core.Path.{_≡_}
 use mathlib.Core.List.{List}
 use Prim.Native.Nat.{ℕ}
 use Rattle.table.specs.declared.reply.Reply.{Reply}
-use Rattle.oer.specs.Contracts.{Checks, Validates, Decodes, Measures, Encodes, Edits}
+use Rattle.finding.specs.declared.settings.Setting.{Setting}
+use Rattle.oer.specs.Contracts.{Checks, Validates, Decodes, Measures, Encodes, Edits, Reads, Shows}
 use Rattle.oer.specs.ContractLaws as laws
 
 module _ (rows items : List ℕ) where
@@ -35,3 +36,11 @@ module _ (rows items : List ℕ) (row : ℕ) where
       → Edits rows items row msg path ws cs out out₁ r → Edits rows items row msg path ws cs out out₂ r′
       → (r ≡ r′) × (out₁ ≡ out₂)
   edit-determined msg path ws cs out c c′ = laws.edit-one rows items row msg path ws cs out c c′
+
+  pub setting-determined : (msg path : List ℕ) {r r′ : Setting} → Reads rows items row msg path r
+      → Reads rows items row msg path r′ → r ≡ r′
+  setting-determined msg path c c′ = laws.setting-one rows items row msg path c c′
+
+  pub text-determined : (msg path instead : List ℕ) {shown shown′ : List ℕ} → Shows rows items row msg path instead shown
+      → Shows rows items row msg path instead shown′ → shown ≡ shown′
+  text-determined msg path instead c c′ = laws.text-one rows items row msg path instead c c′

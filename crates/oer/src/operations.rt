@@ -1,10 +1,16 @@
 // The public operations of document 01. Each is one call, and asks nothing of its caller. The contracts stand in
 // specs/Contracts.antt: what the reply is, and what every word of lent memory then holds, on every input.
-ghost use Rattle.oer.specs.Contracts.{Checks, Validates, Decodes};
+ghost use Rattle.oer.specs.Contracts.{Checks, Validates, Decodes, Measures, Encodes, Edits, Reads, Shows};
+use editing::operations::edit as edit_message;
+use finding::settings::Setting;
+use finding::settings::read_setting as setting_at;
+use finding::texts::show_text as text_at;
 use reading::operations::decode as decode_message;
 use reading::operations::validate as validate_message;
 use table::check::check as check_table;
 use table::reply::Reply;
+use writing::operations::encode as encode_list;
+use writing::operations::measure as measure_list;
 
 // Check a table: 1 TABLE SIZE, 2 TABLE ROW at the first row that breaks a rule, or DONE.
 // Ruled out, for instance: a check that refuses every table, and one that names a later bad row.
@@ -36,4 +42,70 @@ pub fn decode(
     ensures { λ r. ⌜ Decodes (now (rows .entry)) (now (items .entry)) row (now (msg .entry)) (now (nodes .entry)) (now (contents .entry)) (now (nodes .exit)) (now (contents .exit)) r ⌝ }
 {
     decode_message(rows, items, row, msg, nodes, contents)
+}
+
+// Measure a value list: DONE with the number of its value's octets, or the first refusal in document 01's order.
+// Ruled out, for instance: a made-up count, and a refusal at another node than the first that is wrong.
+pub fn measure(rows: &[u64], items: &[u64], row: u64, nodes: &[u64], contents: &[u8]) -> Reply
+    ensures { λ r. ⌜ Measures (now (rows .entry)) (now (items .entry)) row (now (nodes .entry)) (now (contents .entry)) r ⌝ }
+{
+    measure_list(rows, items, row, nodes, contents)
+}
+
+// Encode a value list: the same, then ROOM; on DONE the octets of its value stand at the front of the lent buffer. What lies behind them
+// stays, and a refusal leaves it as lent.
+// Ruled out, for instance: an encoder that writes a constant message, and one that has written octets when it refuses.
+pub fn encode(
+    rows: &[u64],
+    items: &[u64],
+    row: u64,
+    nodes: &[u64],
+    contents: &[u8],
+    out: &mut [u8],
+) -> Reply
+    ensures { λ r. ⌜ Encodes (now (rows .entry)) (now (items .entry)) row (now (nodes .entry)) (now (contents .entry)) (now (out .entry)) (now (out .exit)) r ⌝ }
+{
+    encode_list(rows, items, row, nodes, contents, out)
+}
+
+// Edit a message at a path: on DONE the message of its value with that component replaced by the listed one stands at the front of the
+// lent buffer. The order is document 01's: as decode up to LEFT OVER, PATH, the new list, then NODES, LONG and ROOM of the result.
+// Ruled out, for instance: an editor that returns the old message, and one that follows only the first step.
+pub fn edit(
+    rows: &[u64],
+    items: &[u64],
+    row: u64,
+    msg: &[u8],
+    path: &[u64],
+    nodes: &[u64],
+    contents: &[u8],
+    out: &mut [u8],
+) -> Reply
+    ensures { λ r. ⌜ Edits (now (rows .entry)) (now (items .entry)) row (now (msg .entry)) (now (path .entry)) (now (nodes .entry)) (now (contents .entry)) (now (out .entry)) (now (out .exit)) r ⌝ }
+{
+    edit_message(rows, items, row, msg, path, nodes, contents, out)
+}
+
+// Read the setting at a path, with the refusals of an edit up to PATH.
+// Ruled out, for instance: the setting of another component, and a DEFAULT one that is read as absent.
+pub fn read_setting(rows: &[u64], items: &[u64], row: u64, msg: &[u8], path: &[u64]) -> Setting
+    ensures { λ r. ⌜ Reads (now (rows .entry)) (now (items .entry)) row (now (msg .entry)) (now (path .entry)) r ⌝ }
+{
+    setting_at(rows, items, row, msg, path)
+}
+
+// Show the string at a path: the part of the message that holds its octets, or the caller's whole fallback if the reading is refused,
+// absent or no string.
+// Ruled out, for instance: a BIT STRING shown with its unused-bits octet, and the fallback for an empty string.
+pub fn show_text<'a>(
+    rows: &[u64],
+    items: &[u64],
+    row: u64,
+    msg: &'a [u8],
+    path: &[u64],
+    fallback: &'a [u8],
+) -> &'a [u8]
+    ensures { λ r. ⌜ Shows (now (rows .entry)) (now (items .entry)) row (now (msg .entry)) (now (path .entry)) (now (fallback .entry)) (now r) ⌝ }
+{
+    text_at(rows, items, row, msg, path, fallback)
 }
