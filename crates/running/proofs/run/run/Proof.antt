@@ -4,14 +4,15 @@ use Prim.Native.Nat.{_-_, _≤_}
 use lib.ListN.{length}
 use mathlib.Core.Path.{_≡_}
 use borrow.Author.Needs.{needs}
-use Rattle.messages.proofs.run.Statement.{statement}
-use Rattle.messages.proofs.run.Tie as tie
+use Rattle.running.proofs.run.run.Statement.{statement}
+use Rattle.running.proofs.run.run.Tie as tie
 
 abbrev Inv-loop : tie.InvT-loop
-Inv-loop s rows₀ items₀ r₀ i₀ at₀ t10 rows items r i at = (at ≤ length s) × (length rows ≡ length rows₀) × (length items ≡ length items₀)
+Inv-loop s rows₀ items₀ r₀ i₀ at₀ rows items r i at =
+    (at ≤ length s) × (length rows ≡ length rows₀) × (length items ≡ length items₀)
 
 abbrev μ-loop : tie.MeasureT-loop
-μ-loop s rows₀ items₀ r₀ i₀ at₀ t10 rows items r i at = length s - at
+μ-loop s rows₀ items₀ r₀ i₀ at₀ rows items r i at = length s - at
 
 loop-holds : tie.Need-loop-holds Inv-loop μ-loop
 loop-holds c = search needs
@@ -37,11 +38,8 @@ write-all-requires c κs = search needs
 sub-if2 : tie.Need-sub-if2 Inv-loop μ-loop
 sub-if2 c = search needs
 
-slice-aggregate-write-all : tie.Need-slice-aggregate-write-all Inv-loop μ-loop
-slice-aggregate-write-all c = search needs
-
-write-all-requires-2 : tie.Need-write-all-requires-2 Inv-loop μ-loop
-write-all-requires-2 c κs = search needs
+end-line-requires : tie.Need-end-line-requires Inv-loop μ-loop
+end-line-requires c κs = search needs
 
 shared-slice-read-if3 : tie.Need-shared-slice-read-if3 Inv-loop μ-loop
 shared-slice-read-if3 c = search needs
@@ -55,11 +53,14 @@ list-at-requires c κs = search needs
 list-at-requires-2 : tie.Need-list-at-requires-2 Inv-loop μ-loop
 list-at-requires-2 c κs = search needs
 
-add-message-at : tie.Need-add-message-at Inv-loop μ-loop
-add-message-at c = search needs
+shared-slice-read-case-with : tie.Need-shared-slice-read-case-with Inv-loop μ-loop
+shared-slice-read-case-with c = search needs
 
-message-at-requires : tie.Need-message-at-requires Inv-loop μ-loop
-message-at-requires c κs = search needs
+add-case-with : tie.Need-add-case-with Inv-loop μ-loop
+add-case-with c = search needs
+
+case-with-requires : tie.Need-case-with-requires Inv-loop μ-loop
+case-with-requires c κs = search needs
 
 loop-less : tie.Need-loop-less Inv-loop μ-loop
 loop-less c = search needs
@@ -108,14 +109,14 @@ run-spec =
     part-write-all-end
     write-all-requires
     sub-if2
-    slice-aggregate-write-all
-    write-all-requires-2
+    end-line-requires
     shared-slice-read-if3
     add-list-at
     list-at-requires
     list-at-requires-2
-    add-message-at
-    message-at-requires
+    shared-slice-read-case-with
+    add-case-with
+    case-with-requires
     loop-less
     loop-again
     loop-less-2
