@@ -1,5 +1,5 @@
--- The reply of an edit and the new message, refusal by refusal. Premises are the callees' `ensures` and the tests as they
--- went. Assumes nothing.
+-- The reply of an edit and the new message, refusal by refusal. Premises are the callees' `ensures` and the tests as
+-- they went. Assumes nothing.
 use mathlib.Core.Path.{_≡_, refl, ap, sym, _∙_}
 use mathlib.Core.List.{List}
 use Prim.Native.Nat.{ℕ, _+_, _-_, _*_, _/_, _<_, _≤_}
@@ -72,7 +72,14 @@ module _ (rows items : List ℕ) (row : ℕ) (msg path ws cs out : List ℕ) whe
 
       count-is : size new ≡ w .count - s .nodes + length ws / 2
       count-is =
-          omega (arith, size-replaced t (h .whole) path (finds rows items row msg path h) y, listed, h .spot .nodes, h .count, nodes-held rows items row msg path h)
+          omega (
+            arith,
+            size-replaced t (h .whole) path (finds rows items row msg path h) y,
+            listed,
+            h .spot .nodes,
+            h .count,
+            nodes-held rows items row msg path h,
+          )
 
       pub octets-is : length (encode t new) ≡ length msg - (s .end - s .start) + n
       octets-is =
@@ -126,9 +133,11 @@ module _ (rows items : List ℕ) (row : ℕ) (msg path ws cs out : List ℕ) whe
                 let pre = h .spot .preamble ∙ start-is t (h .whole) path in
                 let bit = h .spot .bit ∙ number-is t (h .whole) path in
                 p y (a .end) (a .walks) (a .octets) (omega (arith, h .spot .end, h .inside))
-                (bit-inside t (h .whole) path msg (h .encodes) (h .fits) y s start-at pre bit _ _ _ _ (finds rows items row msg path h))
+                (bit-inside t (h .whole) path msg (h .encodes) (h .fits) y s start-at pre bit _ _ _ _
+                (finds rows items row msg path h))
                 ∙ ap (λ z. over z out)
-                (spliced-is t (h .whole) path msg (h .encodes) (h .fits) y s start-at pre bit _ _ _ _ (finds rows items row msg path h) refl (h .spot .end))
+                (spliced-is t (h .whole) path msg (h .encodes) (h .fits) y s start-at pre bit _ _ _ _
+                (finds rows items row msg path h) refl (h .spot .end))
 
             pub edit-done : {out′ : List ℕ} {r : Reply} → Spliced u s ws cs n msg out out′
                 → r ≡ asReply (doneReply 0 (length msg - (s .end - s .start) + n)) → Writes E out′ r

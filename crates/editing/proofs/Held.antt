@@ -1,4 +1,5 @@
--- A component that was found: the new message around another in its place, its presence bit, and what the whole holds of it.
+-- A component that was found: the new message around another in its place, its presence bit, and what the whole holds
+-- of it.
 -- Assumes nothing.
 use mathlib.Core.Path.{_≡_, refl, sym, _∙_}
 use mathlib.Core.Bool.{true, not}
@@ -53,7 +54,8 @@ module _ (t : Ty) (v : Val) (p msg : List ℕ) (whole : msg ≡ encode t v) (fit
       rw (em, ne-eqb (suc m) 0 (λ z. omega arith), end, start, pre, bit)
       (sym (spliced-marked t v p msg whole y fits e))
 
-  pub bit-inside : (m d : ℕ) (u : Ty) (x : Val) → find t v p ≡ found m d u x → (m ≡ 0 → ⊥) → s .pre + s .bit / 8 < s .start
+  pub bit-inside : (m d : ℕ) (u : Ty) (x : Val) → find t v p ≡ found m d u x → (m ≡ 0 → ⊥)
+      → s .pre + s .bit / 8 < s .start
   bit-inside zero d u x e h = absurd (h refl)
   bit-inside (suc m) d u x e h = rw (pre, bit, start) (before-inside t v p fits e)
 

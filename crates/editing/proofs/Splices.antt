@@ -1,19 +1,19 @@
 -- The new message laid into the lent buffer: three runs of stores and one bit. Premises are the callees' `ensures`.
 -- Assumes nothing.
-use mathlib.Core.Path.{_≡_, refl, ap, sym, _∙_}
-use mathlib.Core.Bool.{Bool, true, false, not, cond}
-use mathlib.Core.List.{List, [], _∷_, _++_, append-assoc}
+use mathlib.Core.Path.{_≡_, refl, sym, _∙_}
+use mathlib.Core.Bool.{Bool, true, not, cond}
+use mathlib.Core.List.{List, _++_, append-assoc}
 use Prim.Native.Nat.{ℕ, _+_, _-_, _/_, _%_, _<_, _≤_}
 use native.Mathlib.Omega.{arith}
 use lib.Dec.{eqb}
 use lib.ListN.{length, getD, set, take, drop, length-append, length-drop, length-set, List·getD-append}
 use lib.Seq.{sets, sets-eq, set-append-left, length-take-le, take-all}
-use borrow.Author.Tests.{eq-eqb, ne-eqb, eqb-true, eqb-false}
-use Rattle.x696.specs.Outcome.{Outcome, refused, got}
+use borrow.Author.Tests.{eq-eqb, ne-eqb, eqb-false}
+use Rattle.x696.specs.Outcome.{got}
 use Rattle.x696.specs.OutcomeLaws.{cases, refused-never}
 use Rattle.x696.specs.Value.{Val, same}
 use Rattle.x696.specs.ValueLaws.{same-refl}
-use Rattle.x696.specs.Types.{Ty, kindOf, missing}
+use Rattle.x696.specs.Types.{Ty, missing}
 use Rattle.x696.specs.Encode.{ownOctets}
 use Rattle.x696.specs.Walk.{Listed, listAt, walkComponent}
 use Rattle.x696.specs.Table.{rowKind, typeOf}
@@ -39,7 +39,8 @@ mark-none l l′ m e = rw (eq-eqb m 0 e) refl
 pub mark-put : (l l′ : List ℕ) {l″ : List ℕ} (m : ℕ) → (m ≡ 0 → ⊥) → l″ ≡ l′ → l″ ≡ cond (eqb m 0) l l′
 mark-put l l′ m h e = rw (ne-eqb m 0 h) e
 
-pub bit-as : (l : List ℕ) (pre b : ℕ) {l′ : List ℕ} {x : Bool} (ws : List ℕ) {j k : ℕ} (m d : ℕ) → x ≡ missingAt ws 0 j m d
+pub bit-as : (l : List ℕ) (pre b : ℕ) {l′ : List ℕ} {x : Bool} (ws : List ℕ) {j k : ℕ} (m d : ℕ)
+    → x ≡ missingAt ws 0 j m d
     → j ≡ k
     → l′ ≡ set l (pre + b / 8) (withBit (getD l (pre + b / 8) 0) (b % 8) (not x))
     → l′ ≡ setBit l pre b (not (missingAt ws 0 k m d))
@@ -112,7 +113,8 @@ module _ (rows items : List ℕ) (s : Spot) (ws cs : List ℕ) (n : ℕ) (msg ou
   abbrev own : Val → List ℕ
   own y = ownOctets (s .mark) (s .given) t y
 
-  laid : (y : Val) {l₁ l₂ l₃ : List ℕ} → l₁ ≡ sets out 0 (take (s .start) (drop 0 msg)) → l₂ ≡ sets l₁ (s .start) (own y)
+  laid : (y : Val) {l₁ l₂ l₃ : List ℕ} → l₁ ≡ sets out 0 (take (s .start) (drop 0 msg))
+      → l₂ ≡ sets l₁ (s .start) (own y)
       → l₃ ≡ sets l₂ (s .start + n) (take (length msg - s .end) (drop (s .end) msg)) → n ≡ length (own y)
       → s .start + (n + (length msg - s .end)) ≤ length out → l₃ ≡ over (around s (own y) msg) out
   laid y e₁ e₂ e₃ en room =

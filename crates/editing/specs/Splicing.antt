@@ -1,5 +1,5 @@
--- The new message of an edit, as the code makes it: what stands before the component and behind it, copied around the new
--- own octets, then the presence bit set or cleared in place.
+-- The new message of an edit, as the code makes it: what stands before the component and behind it, copied around the
+-- new own octets, then the presence bit set or cleared in place.
 -- Assumes nothing.
 use mathlib.Core.Path.{_≡_}
 use mathlib.Core.Bool.{Bool, not, cond}
@@ -29,4 +29,5 @@ Spliced t s ws cs n msg out out′ =
     → n ≡ length (ownOctets (s .mark) (s .given) t y)
     → s .start + (n + (length msg - s .end)) ≤ length out
     → ((s .mark ≡ 0 → ⊥) → s .pre + s .bit / 8 < s .start)
-    → out′ ≡ over (splicedOctets s (ownOctets (s .mark) (s .given) t y) msg (not (same y (missing (s .mark) (s .given) t)))) out
+    → out′ ≡ over (splicedOctets s (ownOctets (s .mark) (s .given) t y) msg (not (same y (missing (s .mark)
+    (s .given) t)))) out

@@ -1,5 +1,5 @@
-// The public edit. It asks nothing of its caller. The order is document 01's: as decode up to LEFT OVER; PATH; the new list as in
-// encode; NODES, LONG and ROOM of the result.
+// The public edit. It asks nothing of its caller. The order is document 01's: as decode up to LEFT OVER; PATH; the new
+// list as in encode; NODES, LONG and ROOM of the result.
 ghost use mathlib.Core.Path.{_≡_};
 ghost use Rattle.x696.specs.Editing.{edit as edited};
 ghost use Rattle.writing.specs.Measures.{Writes};
@@ -12,10 +12,10 @@ use table::reply::refusal;
 use writing::lists::Measured;
 use writing::lists::survey_list;
 
-// Edit at a path: the message of the value with that component replaced by the listed one, at the front of the lent buffer. Octets past
-// the count stay, and every refusal leaves the buffer as lent.
-// Ruled out, for instance: an editor that returns the old message, one that follows only the first step, and a presence bit set on an
-// edit back to the DEFAULT.
+// Edit at a path: the message of the value with that component replaced by the listed one, at the front of the lent
+// buffer. Octets past the count stay, and every refusal leaves the buffer as lent.
+// Ruled out, for instance: an editor that returns the old message, one that follows only the first step, and a
+// presence bit set on an edit back to the DEFAULT.
 pub fn edit(
     rows: &[u64],
     items: &[u64],

@@ -1,10 +1,10 @@
 -- Reals from their bits: which bits are a NaN, and the one NaN.
 -- Assumes nothing.
 use mathlib.Core.Path.{_≡_, refl, sym, _∙_}
-use mathlib.Core.Bool.{Bool, true, false, not}
+use mathlib.Core.Bool.{true, not}
 use Prim.Native.Nat.{ℕ, _≤_, _<_, _*_, _%_}
-use lib.Dec.{T, ltb}
-use lib.Ieee.{Float, nan, inf, fin, Format, binary32, binary64, ofBits, nanBits, isNan, div, ones, hid, top, neg}
+use lib.Dec.{T}
+use lib.Ieee.{Float, nan, inf, fin, Format, binary32, binary64, ofBits, nanBits, isNan, div, ones, hid, top}
 use lib.Ieee.Bits.{nanBits-above, nanBits-is}
 use borrow.Author.Tests.{le-ltb, lt-ltb}
 

@@ -1,21 +1,20 @@
 -- A path followed: it ends here, leads nowhere, or leads into a child whose own following is told.
 -- Premises are the callees' `ensures`. Assumes nothing.
-use mathlib.Core.Path.{_≡_, refl, ap, sym, _∙_}
+use mathlib.Core.Path.{_≡_, refl, sym, _∙_}
 use mathlib.Core.List.{List, [], _∷_}
-use Prim.Native.Nat.{ℕ, suc, _+_, _<_, _≤_}
+use Prim.Native.Nat.{ℕ, suc, _+_, _<_}
 use native.Mathlib.Omega.{arith}
 use native.Mathlib.Numerals.{add-one}
 use lib.ListN.{length, drop, getD, length-append}
 use lib.Seq.{drop-cons}
-use Rattle.x696.specs.Outcome.{Outcome, refused, got}
+use Rattle.x696.specs.Outcome.{refused}
 use Rattle.x696.specs.Value.{Val, Vals}
 use Rattle.x696.specs.Types.{Ty}
-use Rattle.x696.specs.Read.{Message, message}
-use Rattle.x696.specs.Path.{child, childAt, through, nowhere, found, onward, findFrom, childBefore, octetsBefore}
+use Rattle.x696.specs.Read.{message}
+use Rattle.x696.specs.Path.{child, childAt, through, found, onward, findFrom, childBefore}
 use Rattle.x696.specs.PresencePlace.{bitsBefore, preambleStart, bitNumber}
 use Rattle.x696.specs.BeforeLaws.{before-step, start-step, number-step}
 use Rattle.x696.specs.Table.{typeOf}
-use Rattle.octets.specs.Answers.{fault}
 use Rattle.octets.specs.declared.answers.Fault.{Fault}
 use Rattle.kinds.specs.Run.{numberOf}
 use Rattle.kinds.specs.declared.cursor.Cursor.{Cursor}
@@ -26,7 +25,6 @@ use Rattle.finding.specs.declared.spot.Opening.{Opening}
 use Rattle.finding.specs.declared.spot.Spot.{Spot}
 use Rattle.finding.specs.declared.spot.Way.{Way}
 use Rattle.finding.specs.declared.spot.Lost.{Lost}
-use Rattle.finding.specs.declared.spot.Followed.{Followed}
 use Rattle.finding.specs.declared.spot.Followed.the-variants.{Found, Nowhere, Refused}
 
 -- ---- answers
@@ -72,7 +70,8 @@ module _ (t : Ty) (v : Val) (i : ℕ) {m d : ℕ} {u : Ty} {x : Val} (c : childA
   bit-step b k [] e = e
   bit-step b k (j ∷ q) e = sym (number-step t v i c j q)
 
-module _ (rows items msg : List ℕ) (m d row pre b at count : ℕ) (path : List ℕ) (step : ℕ) (more : step < length path) where
+module _ (rows items msg : List ℕ) (m d row pre b at count : ℕ) (path : List ℕ) (step : ℕ)
+    (more : step < length path) where
   abbrev t : Ty
   t = typeOf rows items row
 
@@ -100,7 +99,8 @@ module _ (rows items msg : List ℕ) (m d row pre b at count : ℕ) (path : List
 
   module _ (o : Opening) (l : Leads rows items msg row at i (followed rows items msg m d row pre b at count) o) where
     pub child-lost : {k : Lost} {c : Cursor}
-        (h : Loses rows items msg (o .mark) (o .given) (o .row) at (o .bit) (o .at) (o .count) (drop (step + 1) path) (step + 1) k)
+        (h : Loses rows items msg (o .mark) (o .given) (o .row) at (o .bit) (o .at) (o .count) (drop
+        (step + 1) path) (step + 1) k)
         → Stood none msg (behindOf rows items msg row at o (message (drop (k .at) msg) (k .count))) c
         → Loses rows items msg m d row pre b at count (drop step path) step
         (record { at = c .at; count = c .count; step = k .step })
@@ -117,7 +117,8 @@ module _ (rows items msg : List ℕ) (m d row pre b at count : ℕ) (path : List
         })
 
     spot-step : (x : Val) (bs : Vals) {s : Spot}
-        → Spotted rows items (o .mark) (o .given) (typeOf rows items (o .row)) at (o .bit) (o .at) x (drop (step + 1) path) s
+        → Spotted rows items (o .mark) (o .given) (typeOf rows items (o .row)) at (o .bit) (o .at) x (drop
+        (step + 1) path) s
         → Spotted rows items m d t pre b at (l .wrap x bs) (i ∷ drop (step + 1) path) s
     unfolding onward
     spot-step x bs h =

@@ -12,3 +12,4 @@ pub mod SettingLaws
 pub mod Flats
 pub mod FlatWords
 pub mod TextLaws
+pub mod SettingExact

@@ -5,7 +5,7 @@ use mathlib.Core.List.{List, [], _∷_, _++_, append-assoc}
 use Prim.Native.Nat.{ℕ, zero, suc, _+_, _-_, _/_, _%_, _^_, _<_, _≤_}
 use native.Mathlib.Omega.{arith}
 use native.Mathlib.Nat.{add-zero, sub-zero}
-use lib.ListN.{length, getD}
+use lib.ListN.{getD}
 use Rattle.x696.specs.Outcome.{Outcome, refused, got, next}
 use Rattle.x696.specs.OutcomeLaws.{next-inv, refused-never}
 use Rattle.x696.specs.Digits.{Below}
@@ -13,7 +13,7 @@ use Rattle.x696.specs.DigitsLaws.{below-split}
 use Rattle.x696.specs.Value.{Val, Vals, noValues, value, valueCount}
 use Rattle.x696.specs.Types.{Ty, presenceCount, markCount}
 use Rattle.x696.specs.Encode.{each, encode, encodeComponents, ownOctets}
-use Rattle.x696.specs.Read.{Message, times, componentBy, read, readComponent}
+use Rattle.x696.specs.Read.{Message, times, read, readComponent}
 use Rattle.x696.specs.Sound.{ComponentReadAs, component-sound, sound}
 use Rattle.x696.specs.Path.{child, componentAt, elementAt, componentsBefore, elementsBefore}
 use Rattle.x696.specs.PresencePlace.{marksBefore}
@@ -61,7 +61,8 @@ pub component-own : (m d : ℕ) (t : Ty) (x end : ℕ) (s : Message) {v : Val} {
     → ComponentReadAs nodeLimit m d t (x ∷ []) (s .octets) (s .count) v r
 unfolding readComponent
 component-own m d t x end s h b e =
-    component-sound nodeLimit m d t (λ s. read nodeLimit t end s) (λ s v r b e. sound nodeLimit t end s b e) (x ∷ []) end s
+    component-sound nodeLimit m d t (λ s. read nodeLimit t end s) (λ s v r b e. sound nodeLimit t end s b e)
+    (x ∷ []) end s
     b (h, tt) (presence-few m) e
 
 pub bit-small : (msg : List ℕ) (pre b : ℕ) → bitAt msg pre b < 2
@@ -137,14 +138,21 @@ module _ (rows items msg : List ℕ) (pre : ℕ) where
       let d = componentDefault items g in
       let t = typeOf rows items (componentRow items g) in
       let a = component-own m d t _ _ s (bit-small msg pre b) below was in
-      let rest = components-octets i _ (suc g) r₁ (below-split 8 (ownOctets m d t v) (r₁ .octets) below (a .from) .1) was′ in
+      let rest = components-octets i _ (suc g) r₁ (below-split 8 (ownOctets m d t v) (r₁ .octets) below
+      (a .from) .1) was′ in
       rw (← q, ← qr)
-      (cc (a .from, rest, append-assoc (ownOctets m d t v) (encodeComponents (componentsFrom T items (suc g) i) ws) (r₂ .octets)))
+      (cc (
+        a .from,
+        rest,
+        append-assoc (ownOctets m d t v) (encodeComponents (componentsFrom T items (suc g) i) ws)
+            (r₂ .octets),
+      ))
 
   -- where the component after i others stands
   pub component-at : (i n g : ℕ) (us : Vals) (x : Val) (bs : Vals) → valueCount us ≡ i → i < n
       → componentAt (componentsFrom T items g n) (append us (value x bs)) i
-      ≡ child (componentMark items (g + i)) (componentDefault items (g + i)) (typeOf rows items (componentRow items (g + i))) x
+      ≡ child (componentMark items (g + i)) (componentDefault items (g + i)) (typeOf rows items (componentRow items
+      (g + i))) x
   unfolding componentAt itemsFrom append valueCount
   component-at i zero g us x bs e h = absurd (omega arith)
   component-at zero (suc n) g noValues x bs e h = rw (add-zero g) refl

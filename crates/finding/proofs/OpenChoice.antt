@@ -9,7 +9,7 @@ use native.Mathlib.Nat.{add-zero}
 use lib.ListN.{length, drop, length-append, length-drop}
 use lib.Dec.{eqb}
 use borrow.Author.Tests.{eqb-true}
-use Rattle.x696.specs.Outcome.{Outcome, refused, got, next, choose}
+use Rattle.x696.specs.Outcome.{Outcome, got, next, choose}
 use Rattle.x696.specs.OutcomeLaws.{cases, and-both, refused-never}
 use Rattle.x696.specs.Digits.{Below}
 use Rattle.x696.specs.Tag.{Tag as TagOf, tag, tagOctets, readTag}
@@ -104,7 +104,8 @@ module _ (rows items msg : List ℕ) (row at count : ℕ) (inside : at ≤ lengt
     own-tag = tag-of (t .went m e .whole) (t .went m e .number)
 
     module _ (below : Below 8 msg) (o : Opening) (er : o .row ≡ alternativeRow items (g + j)) (em : o .mark ≡ 0)
-        (ed : o .given ≡ 0) (eo : o .bit ≡ 0) (ea : o .at ≡ m .next) (ek : o .count ≡ count + 1) (ex : o .left ≡ 0) where
+        (ed : o .given ≡ 0) (eo : o .bit ≡ 0) (ea : o .at ≡ m .next) (ek : o .count ≡ count + 1) (ex : o .left
+        ≡ 0) where
       abbrev C : Outcome Message Val
       C = read nodeLimit (typeOf rows items (alternativeRow items (g + j))) (length msg)
           (message (drop (m .next) msg) (count + 1))

@@ -16,7 +16,7 @@ use Rattle.x696.specs.Value.{Val, node, Vals, noValues, value, valueCount}
 use Rattle.x696.specs.Types.{Ty, sequenceOf}
 use Rattle.x696.specs.Encode.{each, encode}
 use Rattle.x696.specs.Read.{Message, message, times, componentBy, read, readComponent}
-use Rattle.x696.specs.Path.{noChild, elementAt, childAt, elementsBefore, childBefore}
+use Rattle.x696.specs.Path.{noChild, elementAt, childAt, childBefore}
 use Rattle.x696.specs.PresencePlace.{bitsBefore}
 use Rattle.x696.specs.Operations.{nodeLimit}
 use Rattle.x696.specs.Table.{rowKind, rowFirst, componentRow, typeOf}
@@ -84,7 +84,8 @@ module _ (rows items msg : List ℕ) (row at count : ℕ) (inside : at ≤ lengt
     pub before-stops : {x p : ℕ} → times F i S ≡ refused x p → D ≡ refused x p
     before-stops e = members-first ∙ next-refused _ (elements-stop F i n S (omega arith) e)
 
-    module _ (below : Below 8 msg) {p : Cursor} (fore : Stood none msg (times F i S) p) (o : Opening) (er : o .row ≡ inner)
+    module _ (below : Below 8 msg) {p : Cursor} (fore : Stood none msg (times F i S) p) (o : Opening) (er : o .row
+        ≡ inner)
         (em : o .mark ≡ 0) (ed : o .given ≡ 0) (eo : o .bit ≡ 0) (ea : o .at ≡ p .at) (ek : o .count ≡ p .count)
         (ex : o .left ≡ n - (i + 1)) where
       abbrev us : Vals

@@ -20,7 +20,7 @@ use Rattle.x696.specs.Value.{Val, node, Vals, noValues, value}
 use Rattle.x696.specs.Types.{Ty, sequence, presenceCount, markCount}
 use Rattle.x696.specs.Encode.{presence, encodeComponents}
 use Rattle.x696.specs.Read.{Message, message, readComponents, read, readComponent}
-use Rattle.x696.specs.Path.{Child, noChild, componentAt, childAt, componentsBefore, childBefore}
+use Rattle.x696.specs.Path.{noChild, componentAt, childAt, componentsBefore, childBefore}
 use Rattle.x696.specs.PresencePlace.{bitsBefore}
 use Rattle.x696.specs.Operations.{nodeLimit}
 use Rattle.x696.specs.Table.{rowKind, rowFirst, rowCount, itemWidth, componentRow, componentMark, componentDefault}
@@ -32,10 +32,8 @@ use Rattle.octets.specs.Presence.{bitAt}
 use Rattle.octets.proofs.Answered.{next-refused, next-got}
 use Rattle.octets.proofs.Octets.{below-drop}
 use Rattle.octets.proofs.PresenceBits.{bits-read}
-use Rattle.octets.specs.declared.answers.Fault.{Fault}
 use Rattle.kinds.specs.Run.{insideAt}
 use Rattle.kinds.specs.declared.cursor.Cursor.{Cursor}
-use Rattle.kinds.specs.declared.cursor.Read.the-variants.{Refused}
 use Rattle.reading.proofs.Marks.{mark-one}
 use Rattle.reading.proofs.Sequences.{bitsAt, plain-any, preamble-first}
 use Rattle.finding.specs.Passing.{Stood, componentsAt, none}
@@ -43,7 +41,8 @@ use Rattle.finding.specs.Leading.{behindOf, Leads}
 use Rattle.finding.specs.declared.spot.Opening.{Opening}
 use Rattle.finding.proofs.Parts.{components-step, component-fitting}
 use Rattle.finding.proofs.Members.{append, joined, marksOf, components-stop, components-many, components-split}
-use Rattle.finding.proofs.Members.{components-octets, component-at, components-before, marks-before, presence-few}
+use Rattle.finding.proofs.Members.{components-octets, component-at, components-before, marks-before}
+use Rattle.finding.proofs.Members.{presence-few}
 use Rattle.finding.proofs.Openings.{group-stops, group-ends, group-gets}
 
 next-same : {S T A B : Type 0} (o : Outcome S A) (k l : A → S → Outcome T B) → ((a : A) (s : S) → k a s ≡ l a s)
@@ -164,7 +163,8 @@ module _ (rows items msg : List ℕ) (row at count : ℕ) (inside : at ≤ lengt
             (message (drop (p .at) msg) (p .count))
 
         abbrev B : Message → Outcome Message Vals
-        B s = componentsAt rows items msg at (b + presenceCount (componentMark items (g + i))) (g + (i + 1)) (n - (i + 1)) s
+        B s = componentsAt rows items msg at (b + presenceCount (componentMark items (g + i))) (g + (i + 1)) (n -
+            (i + 1)) s
 
         child-is : readComponent nodeLimit (o .mark) (o .given) (typeOf rows items (o .row)) (bitAt msg at (o .bit))
             (length msg) (message (drop (o .at) msg) (o .count)) ≡ C
@@ -174,7 +174,8 @@ module _ (rows items msg : List ℕ) (row at count : ℕ) (inside : at ≤ lengt
         unfolding behindOf choose
         behind-is s = rw (is, el, ef, ex) refl
 
-        group : D ≡ next (joined us (next C λ x s. next (B s) λ bs s. got (value x bs) s)) λ vs s. got (node 10 n [] vs) s
+        group : D ≡ next (joined us (next C λ x s. next (B s) λ bs s. got (value x bs) s)) λ vs s. got
+            (node 10 n [] vs) s
         group =
             members-first
             ∙ ap (λ o. next o λ vs s. got (node 10 n [] vs) s)
@@ -182,7 +183,8 @@ module _ (rows items msg : List ℕ) (row at count : ℕ) (inside : at ≤ lengt
             ∙ ap (joined us) (rw (← eb T, zero-add b)
             (components-step rows items msg at b g n i (message (drop (p .at) msg) (p .count)) h)))
 
-        many : (x : Val) (bs : Vals) → length (childBefore (sequence (componentsFrom T items g n)) (node 10 n [] (append us (value x bs))) i)
+        many : (x : Val) (bs : Vals) → length (childBefore (sequence (componentsFrom T items g n)) (node 10 n []
+            (append us (value x bs))) i)
             ≡ bitOctets (b + c) + length (encodeComponents (componentsFrom T items g i) us)
         unfolding childBefore
         many x bs =
@@ -202,7 +204,8 @@ module _ (rows items msg : List ℕ) (row at count : ℕ) (inside : at ≤ lengt
             let known = sequence-row rows items row sound is in
             let one = known .component i (omega arith) in
             let own : _ = rw (← eg) at one in
-            let taken = ap length (components-octets rows items msg at i 0 g S (below-drop 8 msg (at + bitOctets (b + c)) below) (fore .reads)) in
+            let taken = ap length (components-octets rows items msg at i 0 g S (below-drop 8 msg (at + bitOctets
+            (b + c)) below) (fore .reads)) in
             let count = components-many rows items msg at i 0 g S (fore .reads) in
             record {
               wrap = λ x bs. node 10 n [] (append us (value x bs));

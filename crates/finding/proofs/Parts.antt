@@ -1,20 +1,20 @@
 -- Parts of a message passed over: an answer from a reading, one component with its mark and default, and the rest of a
 -- group while it is passed. Premises are the callees' `ensures`. Assumes nothing.
-use mathlib.Core.Path.{_≡_, refl, sym, _∙_}
+use mathlib.Core.Path.{_≡_, refl, _∙_}
 use mathlib.Core.Bool.{Bool, true, false, not}
-use mathlib.Core.List.{List, []}
-use Prim.Native.Nat.{ℕ, zero, suc, _+_, _-_, _/_, _%_, _^_, _<_, _≤_}
+use mathlib.Core.List.{List}
+use Prim.Native.Nat.{ℕ, zero, suc, _+_, _-_, _<_, _≤_}
 use native.Mathlib.Omega.{arith}
 use native.Mathlib.Nat.{add-zero, sub-zero}
-use lib.ListN.{length, drop, getD}
-use lib.Dec.{leb, eqb}
-use borrow.Author.Tests.{le-leb, lt-leb, lt-ltb, le-ltb, eq-eqb, eqb-true, eqb-false}
+use lib.ListN.{length, drop}
+use lib.Dec.{eqb}
+use borrow.Author.Tests.{le-leb, lt-leb, eqb-true, eqb-false}
 use Rattle.x696.specs.Outcome.{Outcome, refused, got, next, must, choose}
 use Rattle.x696.specs.OutcomeLaws.{cases, cases-lt}
 use Rattle.x696.specs.Digits.{Below}
-use Rattle.x696.specs.Value.{Val, node, Vals, noValues, value, same}
+use Rattle.x696.specs.Value.{Val, Vals, noValues, value, same}
 use Rattle.x696.specs.Types.{Ty, presenceCount, missing}
-use Rattle.x696.specs.Read.{Message, message, offset, counted, componentBy, read, readComponent}
+use Rattle.x696.specs.Read.{Message, message, counted, componentBy, read, readComponent}
 use Rattle.x696.specs.Sound.{sound}
 use Rattle.x696.specs.Operations.{nodeLimit}
 use Rattle.x696.specs.Table.{componentRow, componentMark, componentDefault, typeOf}

@@ -1,5 +1,5 @@
--- The place of a component in a whole message: refusal by refusal, or found. Premises are the callees' `ensures` and the
--- tests as they went. Assumes nothing.
+-- The place of a component in a whole message: refusal by refusal, or found. Premises are the callees' `ensures` and
+-- the tests as they went. Assumes nothing.
 use mathlib.Core.Path.{_≡_, refl, ap, sym, _∙_}
 use mathlib.Core.List.{List, [], _++_, append-nil}
 use Prim.Native.Nat.{ℕ, _+_, _/_, _<_, _≤_}
@@ -8,9 +8,8 @@ use lib.ListN.{length, drop, length-append, length-drop, drop-of-length-le}
 use borrow.Author.Tests.{le-leb, ne-eqb}
 use Rattle.x696.specs.Outcome.{Outcome, refused, got, next, must}
 use Rattle.x696.specs.Digits.{Below}
-use Rattle.x696.specs.Value.{Val, size}
+use Rattle.x696.specs.Value.{Val}
 use Rattle.x696.specs.Types.{Ty}
-use Rattle.x696.specs.Fits.{Fits}
 use Rattle.x696.specs.Encode.{encode, ownOctets}
 use Rattle.x696.specs.Read.{Message, message, componentBy, read, readComponent}
 use Rattle.x696.specs.Sound.{sound}

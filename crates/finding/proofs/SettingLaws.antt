@@ -1,9 +1,9 @@
 -- The setting of a component that was found: by its row's kind, and of a refusal. Premises are the callees' `ensures`.
 -- Assumes nothing.
 use mathlib.Core.Path.{_≡_, refl, ap, sym, _∙_}
-use mathlib.Core.Bool.{Bool, true, false, false≢true, cond}
+use mathlib.Core.Bool.{Bool, true, false, false≢true}
 use mathlib.Core.List.{List}
-use Prim.Native.Nat.{ℕ, zero, suc, _/_, _^_, _<_}
+use Prim.Native.Nat.{ℕ, zero, suc, _^_, _<_}
 use native.Mathlib.Omega.{arith}
 use lib.Dec.{eqb}
 use lib.IntN.{ℤ}
@@ -23,7 +23,7 @@ use Rattle.x696.specs.Encode.{carriedOctets, encode, ownOctets}
 use Rattle.x696.specs.Path.{find}
 use Rattle.x696.specs.PathLaws.{find-fits}
 use Rattle.x696.specs.Setting.{Setting as Meant, absentSetting, leafSetting, typeSetting, settingOf}
-use Rattle.x696.specs.Reply.{Answer, done, then}
+use Rattle.x696.specs.Reply.{Answer, then}
 use Rattle.x696.specs.Table.{rowKind, rowFlags, rowA, typeBy, typeOf}
 use Rattle.x696.specs.TableCheck.{defaultSound}
 use Rattle.x696.specs.TableLaws.{typeOf-row}
@@ -96,7 +96,8 @@ module _ (rows items : List ℕ) (row : ℕ) (msg path : List ℕ) where
         → Fits t v × (ownOctets (w .spot .mark) (w .spot .given) t v ≡ encode t v)
     unfolding find
     component-there e none =
-        there-fits none (find-fits (typeOf rows items row) (h .whole) path (h .spot .finds) (h .fits)) (h .spot .fitting)
+        there-fits none (find-fits (typeOf rows items row) (h .whole) path (h .spot .finds) (h .fits))
+        (h .spot .fitting)
         (sym (h .spot .absent) ∙ e)
 
     pub setting-absent : w .spot .absent ≡ true → Absent ≡ answerAs (readSetting rows items row msg path)
@@ -155,7 +156,8 @@ module _ (k f a n : ℕ) where
   unfolding kindSetting choose
   kind-two e h = rw e h
 
-  pub kind-three : {z : ℤ} → k ≡ 3 → SFits w64 z → z ≡ toZ w64 n → Signed (toZ w64 (ofZ w64 z)) ≡ settingAs (kindSetting k f a n)
+  pub kind-three : {z : ℤ} → k ≡ 3 → SFits w64 z → z ≡ toZ w64 n
+      → Signed (toZ w64 (ofZ w64 z)) ≡ settingAs (kindSetting k f a n)
   unfolding settingAs kindSetting choose
   kind-three {z} e fits h = rw (e, toZ-ofZ w64 z fits, h) refl
 

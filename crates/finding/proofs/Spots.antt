@@ -10,7 +10,7 @@ use lib.Dec.{eqb}
 use borrow.Author.Tests.{ne-eqb}
 use Rattle.x696.specs.Digits.{Below}
 use Rattle.x696.specs.Real.{binary32, binary64}
-use Rattle.x696.specs.Value.{Val, node, size, same}
+use Rattle.x696.specs.Value.{Val, size, same}
 use Rattle.x696.specs.ValueLaws.{same-refl}
 use Rattle.x696.specs.Leaf.{boolean, null, integer, enumerated, real, octetString, bitString, visibleString}
 use Rattle.x696.specs.Leaf.{leafKind, realKind}
@@ -55,7 +55,7 @@ fits-kind (sequence-fits e f) = refl
 fits-kind (sequenceOf-fits e h f) = refl
 fits-kind (choice-fits e f) = refl
 
-fits-there : {t : Ty} {v : Val} → Fits t v → eqb (kindIn v) 0 ≡ false
+pub fits-there : {t : Ty} {v : Val} → Fits t v → eqb (kindIn v) 0 ≡ false
 fits-there {t} f = rw (fits-kind f) (type-kind t)
 
 and-false : (a : Bool) → a && false ≡ false
@@ -87,7 +87,8 @@ module _ (rows items msg : List ℕ) (m d row pre b at count : ℕ) (inside : at
   abbrev v : Val
   v = g .what
 
-  own : ComponentReadAs nodeLimit m d t (bitAt msg pre b ∷ []) (drop at msg) count v (message (drop (c .at) msg) (c .count))
+  own : ComponentReadAs nodeLimit m d t (bitAt msg pre b ∷ []) (drop at msg) count v (message (drop (c .at) msg)
+      (c .count))
   own = component-own m d t (bitAt msg pre b) (length msg) (message (drop at msg) count) (bit-small msg pre b)
       (below-drop 8 msg at below) (g .reads)
 

@@ -1,10 +1,9 @@
 -- The part of the message that is shown for a string: the last of its own octets. Premises are the callees' `ensures`.
 -- Assumes nothing.
 use mathlib.Core.Path.{_≡_, refl, ap, sym, _∙_}
-use mathlib.Core.Bool.{Bool, true, false, cond}
-use mathlib.Core.List.{List, [], _∷_, _++_}
-use mathlib.Core.Logic.{_⊎_, inl, inr, ⊎-elim}
-use Prim.Native.Nat.{ℕ, suc, _+_, _-_, _/_, _<_, _≤_}
+use mathlib.Core.Bool.{Bool, true, false}
+use mathlib.Core.List.{List, _∷_, _++_}
+use Prim.Native.Nat.{ℕ, suc, _+_, _-_, _≤_}
 use native.Mathlib.Omega.{arith}
 use lib.ListN.{length, length-append, take, drop}
 use lib.Dec.{eqb}
@@ -16,10 +15,10 @@ use Rattle.x696.specs.Bits.{bitOctets, unusedBits}
 use Rattle.x696.specs.Integer.{isUnsigned}
 use Rattle.x696.specs.String.{fixedSize, textOctets, bitStringOctets}
 use Rattle.x696.specs.Value.{Val, node}
-use Rattle.x696.specs.Leaf.{Leaf, octetString, bitString, visibleString, octets-fit, visible-fits, bits-fit, encodeLeaf}
+use Rattle.x696.specs.Leaf.{octetString, bitString, visibleString, octets-fit, visible-fits, bits-fit, encodeLeaf}
 use Rattle.x696.specs.Types.{Ty, leaf}
 use Rattle.x696.specs.Fits.{Fits, leaf-fits}
-use Rattle.x696.specs.Encode.{encode, ownOctets}
+use Rattle.x696.specs.Encode.{encode}
 use Rattle.x696.specs.Setting.{Setting as Meant, stringSize, leafSetting, typeSetting, settingOf, Shown as MeantText}
 use Rattle.x696.specs.Setting.{fallback, partOf, shownString, shownIf}
 use Rattle.x696.specs.Reply.{Answer, answer}
@@ -38,7 +37,6 @@ use Rattle.finding.specs.Settings.{integerSetting, kindSetting}
 use Rattle.finding.specs.Texts.{contentsSize, PartOf, TextAnswer}
 use Rattle.finding.specs.declared.spot.Way.{Way}
 use Rattle.finding.specs.declared.texts.Part.{Part}
-use Rattle.finding.specs.declared.texts.Text.{Text}
 use Rattle.finding.specs.declared.texts.Text.the-variants.{Shown, Nothing}
 use Rattle.finding.proofs.SettingLaws.{kind-setting, absent-setting, there-setting, component-there}
 

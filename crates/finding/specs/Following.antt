@@ -1,5 +1,5 @@
--- A path followed from a step on, in a component that is read with its mark, default and presence bit: what was read of the
--- message, and where the component at the path stands, or the step that leads nowhere.
+-- A path followed from a step on, in a component that is read with its mark, default and presence bit: what was read
+-- of the message, and where the component at the path stands, or the step that leads nowhere.
 -- Assumes nothing.
 use mathlib.Core.Path.{_≡_}
 use mathlib.Core.List.{List, [], _∷_}
@@ -39,7 +39,8 @@ bitFrom b t v [] = b
 bitFrom b t v (i ∷ p) = bitNumber t v (i ∷ p)
 
 -- the component at path p of the value v, whose octets begin at octet `at`
-pub record Spotted (rows items : List ℕ) (m d : ℕ) (t : Ty) (pre b at : ℕ) (v : Val) (p : List ℕ) (s : Spot) : Type 0 where
+pub record Spotted (rows items : List ℕ) (m d : ℕ) (t : Ty) (pre b at : ℕ) (v : Val) (p : List ℕ)
+    (s : Spot) : Type 0 where
   pub value : Val
   pub finds : findFrom m d t v p ≡ found (s .mark) (s .given) (typeOf rows items (s .row)) value
   pub start : s .start ≡ at + length (octetsBefore t v p)

@@ -25,7 +25,8 @@ use Rattle.finding.specs.declared.spot.Opened.the-variants.{Into, Nowher
 module _ (rows items msg : List ℕ) (row at : ℕ) (o : Opening) where
   -- the child, in the group at octet `at`
   abbrev pub childOf : Outcome Message Val
-  childOf = readComponent nodeLimit (o .mark) (o .given) (typeOf rows items (o .row)) (bitAt msg at (o .bit)) (length msg)
+  childOf = readComponent nodeLimit (o .mark) (o .given) (typeOf rows items (o .row)) (bitAt msg at (o .bit))
+      (length msg)
       (message (drop (o .at) msg) (o .count))
 
   -- what stands behind it: components of a SEQUENCE, elements of a SEQUENCE OF, nothing in a CHOICE
@@ -38,7 +39,8 @@ module _ (rows items msg : List ℕ) (row at : ℕ) (o : Opening) where
 abbrev pub BehindFits : (rows items : List ℕ) → (row : ℕ) → Opening → Type 0
 BehindFits rows items row o =
     rowKind rows row ≡ 10
-    → (o .after + o .left ≤ length items / itemWidth) × Each (Component rows items row) (o .after) (o .left) × (o .later + o .left ≤ 1024)
+    → (o .after + o .left ≤ length items / itemWidth) × Each (Component rows items row) (o .after) (o .left) ×
+    (o .later + o .left ≤ 1024)
 
 -- step i leads into the child o of the value that O reads at octet `at`
 pub record Leads (rows items msg : List ℕ) (row at i : ℕ) (O : Outcome Message Val) (o : Opening) : Type 0 where

@@ -3,5 +3,5 @@ pub mod Leading
 pub mod Following
 pub mod Placing
 pub mod Settings
-pub mod Texts
 pub mod Flat
+pub mod Texts

@@ -44,7 +44,8 @@ Fitting t m d = (m < 3) × (m ≡ 2 → defaultSound t d ≡ true) × ((m ≡ 2 
 unfoldable pub leftOut : (default at count : ℕ) → Read
 leftOut d p c = cond (leb nodeLimit c) (Refused (fault 10 p)) (Got (cursor p (suc c) 0 d))
 
--- n components from item `first` on, each with the presence bit that its mark gives it in the preamble at pre, from bit b on
+-- n components from item `first` on, each with the presence bit that its mark gives it in the preamble at pre, from
+-- bit b on
 module _ (rows items msg : List ℕ) (pre : ℕ) where
   unfoldable pub componentsAt : (b first n : ℕ) → Message → Outcome Message Vals
   componentsAt b first zero s = got noValues s

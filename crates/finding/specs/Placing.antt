@@ -1,4 +1,5 @@
--- The component at a path of a message, in the terms of `Answer`: a refusal, or the place with what the code tells of it.
+-- The component at a path of a message, in the terms of `Answer`: a refusal, or the place with what the code tells of
+-- it.
 -- Assumes nothing.
 use mathlib.Core.Path.{_≡_}
 use mathlib.Core.List.{List}
@@ -45,6 +46,7 @@ pub record Placed (rows items : List ℕ) (row : ℕ) (msg path : List ℕ) (a :
     value = spot .value;
   })
 
-pub record PlaceAnswer (rows items : List ℕ) (row : ℕ) (msg path : List ℕ) (a : Answer Place) (r : FoundIn) : Type 0 where
+pub record PlaceAnswer (rows items : List ℕ) (row : ℕ) (msg path : List ℕ) (a : Answer Place)
+    (r : FoundIn) : Type 0 where
   pub went : (w : Way) → r ≡ Found w → Placed rows items row msg path a w
   pub stopped : (x : Reply) → r ≡ Refused x → Refuses a x

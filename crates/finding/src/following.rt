@@ -1,5 +1,6 @@
-// A path followed while the message is read: each group on it is opened, the components before the step's own are passed, that one is
-// followed with the rest of the path, then the components behind it are passed. So a fault anywhere comes before PATH.
+// A path followed while the message is read: each group on it is opened, the components before the step's own are
+// passed, that one is followed with the rest of the path, then the components behind it are passed. So a fault
+// anywhere comes before PATH.
 ghost use mathlib.Core.Path.{_≡_};
 ghost use mathlib.Core.Bool.{_&&_, not};
 ghost use Prim.Native.Nat.{ℕ, _+_, _/_, _<_, _≤_};
@@ -10,8 +11,8 @@ ghost use Rattle.x696.specs.TableLaws.{SoundTable};
 ghost use Rattle.octets.specs.Presence.{bitAt};
 ghost use Rattle.finding.specs.Passing.{Fitting};
 ghost use Rattle.finding.specs.Following.{Childless, Follows};
+use crate::closing::pass_behind;
 use crate::opening::open_component;
-use crate::opening::pass_behind;
 use crate::passing::pass_component;
 use crate::spot::Followed;
 use crate::spot::Lost;

@@ -9,8 +9,8 @@ ghost use Rattle.x696.specs.TableLaws.{SoundTable};
 ghost use Rattle.octets.specs.Answers.{fault};
 ghost use Rattle.octets.specs.Presence.{bitAt};
 ghost use Rattle.kinds.specs.Run.{insideAt};
-ghost use Rattle.finding.specs.Passing.{Passed, Fitting, none};
-ghost use Rattle.finding.specs.Leading.{Opens, behindOf, BehindFits};
+ghost use Rattle.finding.specs.Passing.{Fitting};
+ghost use Rattle.finding.specs.Leading.{Opens};
 use crate::passing::pass_components;
 use crate::passing::pass_elements;
 use crate::spot::Opened;
@@ -201,8 +201,8 @@ fn open_group(
     open_choice(rows, items, row, msg, at, count, step)
 }
 
-// A component with its mark and default, and presence bit b of the preamble at `pre`. Where it is not carried, or no node more may be
-// counted, no step leads into it.
+// A component with its mark and default, and presence bit b of the preamble at `pre`. Where it is not carried, or no
+// node more may be counted, no step leads into it.
 pub fn open_component(
     rows: &[u64],
     items: &[u64],
@@ -229,35 +229,4 @@ pub fn open_component(
         return Opened::Nowhere;
     }
     open_group(rows, items, row, msg, at, count, step)
-}
-
-// What stands behind the child in its group, whose own octets begin at `pre`.
-pub fn pass_behind(
-    rows: &[u64],
-    items: &[u64],
-    row: usize,
-    o: Opening,
-    msg: &[u8],
-    pre: usize,
-    at: usize,
-    count: usize,
-) -> Read
-    requires { ⌜ SoundTable (now rows) (now items) × (row < length (now rows) / rowWidth) × (at ≤ length (now msg)) × (length (now msg) ≤ 65535) × (pre ≤ length (now msg)) × (o .row < row) × BehindFits (now rows) (now items) row o ⌝ }
-    ensures { λ r. ⌜ Passed none (now (msg .entry)) (behindOf (now (rows .entry)) (now (items .entry)) (now (msg .entry)) row pre o (message (drop at (now (msg .entry))) count)) r ⌝ }
-{
-    if row_kind(rows, row) == 10 {
-        return pass_components(
-            rows,
-            items,
-            row,
-            o.after,
-            o.left as usize,
-            msg,
-            pre,
-            o.later,
-            at,
-            count,
-        );
-    }
-    pass_elements(rows, items, o.row, o.left, msg, at, count)
 }

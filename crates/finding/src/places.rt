@@ -1,5 +1,5 @@
-// The component at a path of a message, with all refusals up to PATH: 1, 2, 3; LONG of the message; the first fault in reading order;
-// LEFT OVER; PATH.
+// The component at a path of a message, with all refusals up to PATH: 1, 2, 3; LONG of the message; the first fault in
+// reading order; LEFT OVER; PATH.
 ghost use mathlib.Core.Path.{_≡_};
 ghost use Prim.Native.Nat.{_/_, _<_};
 ghost use lib.ListN.{length};

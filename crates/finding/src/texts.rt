@@ -31,7 +31,8 @@ fn contents_size(kind: u64, number: u64) -> u64
     number
 }
 
-// Where the string at a path stands in the message, without its unused-bits octet: a string's contents are the last of its octets.
+// Where the string at a path stands in the message, without its unused-bits octet: a string's contents are the last of
+// its octets.
 pub fn find_text(rows: &[u64], items: &[u64], row: u64, msg: &[u8], path: &[u64]) -> Text
     ensures { λ r. ⌜ TextAnswer (now (msg .entry)) (showText (now (rows .entry)) (now (items .entry)) row (now (msg .entry)) (now (path .entry))) r ⌝ }
 {

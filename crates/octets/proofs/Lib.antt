@@ -14,8 +14,9 @@ pub mod Puts
 -- Tags
 pub mod Groups
 pub mod Tagging
--- Presence bits
+-- Characters
 pub mod Visible
+-- Presence bits
 pub mod Weights
 pub mod PresenceBits
 pub mod OneBit

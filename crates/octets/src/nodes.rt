@@ -1,26 +1,25 @@
 // Nodes of a value list behind names: a node is two words, (kind, number). Nothing else reads or stores them.
 ghost use mathlib.Core.Path.{_≡_};
-ghost use Prim.Native.Nat.{_+_, _*_, _≤_};
-ghost use lib.ListN.{getD};
+ghost use Prim.Native.Nat.{_+_, _*_, _/_, _<_, _≤_};
+ghost use lib.ListN.{length, getD};
 ghost use mathlib.Core.List.{[], _∷_};
 ghost use lib.Seq.{sets};
 use crate::words::put_word;
-use crate::words::word;
 
-// The kind of node i; 0 where there is none.
+// The kind of node i, which is there.
 pub fn node_kind(nodes: &[u64], i: usize) -> u64
-    requires { ⌜ i ≤ 4096 ⌝ }
+    requires { ⌜ i < length (now nodes) / 2 ⌝ }
     ensures { λ r. ⌜ r ≡ getD (now (nodes .entry)) (i * 2) 0 ⌝ }
 {
-    word(nodes, i * 2)
+    nodes[i * 2]
 }
 
-// The number of node i; 0 where there is none.
+// The number of node i, which is there.
 pub fn node_number(nodes: &[u64], i: usize) -> u64
-    requires { ⌜ i ≤ 4096 ⌝ }
+    requires { ⌜ i < length (now nodes) / 2 ⌝ }
     ensures { λ r. ⌜ r ≡ getD (now (nodes .entry)) (i * 2 + 1) 0 ⌝ }
 {
-    word(nodes, i * 2 + 1)
+    nodes[i * 2 + 1]
 }
 
 // Stores node i if there is room.

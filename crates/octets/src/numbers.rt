@@ -100,8 +100,8 @@ pub fn is_fewest_signed(msg: &[u8], start: usize, k: usize) -> bool
     }
 }
 
-// Stores the k octets of w, big end first, as far as there is room.
-pub fn put_number(out: &mut [u8], to: usize, k: usize, w: u64)
+// The k octets of w, big end first, as far as there is room.
+fn put_digits(out: &mut [u8], to: usize, k: usize, w: u64)
     requires { ⌜ (k ≤ 8) × (to < 2 ^ 48) ⌝ }
     ensures { λ _. ⌜ now (out .exit) ≡ sets (now (out .entry)) to (digits 8 k w) ⌝ }
 {
@@ -112,6 +112,17 @@ pub fn put_number(out: &mut [u8], to: usize, k: usize, w: u64)
         put_octet(out, to + i, (v % 256) as u8);
         v = v / 256;
     }
+}
+
+// Stores the k octets of w, big end first, as far as there is room. Where there is none, as in measuring, no octet is worked out.
+pub fn put_number(out: &mut [u8], to: usize, k: usize, w: u64)
+    requires { ⌜ (k ≤ 8) × (to < 2 ^ 48) ⌝ }
+    ensures { λ _. ⌜ now (out .exit) ≡ sets (now (out .entry)) to (digits 8 k w) ⌝ }
+{
+    if out.len() <= to {
+        return;
+    }
+    put_digits(out, to, k, w);
 }
 
 // Where a word stands in the signed order.

@@ -43,9 +43,9 @@ pub fn bit_of(mark: u64) -> usize
     if mark == 0 { 0 } else { 1 }
 }
 
-// Whether node `at` has this kind and number.
+// Whether node `at`, which is there, has this kind and number.
 fn is_node(nodes: &[u64], at: usize, kind: u64, number: u64) -> bool
-    requires { ⌜ at ≤ 4096 ⌝ }
+    requires { ⌜ at < length (now nodes) / 2 ⌝ }
     ensures { λ r. ⌜ r ≡ eqb (getD (now (nodes .entry)) (at * nodeWidth) 0) kind && eqb (getD (now (nodes .entry)) (at * nodeWidth + 1) 0) number ⌝ }
 {
     if node_kind(nodes, at) == kind {

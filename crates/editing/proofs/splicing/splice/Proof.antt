@@ -1,6 +1,5 @@
 -- Three runs of stores and one bit.
 -- Assumes nothing.
-use native.Mathlib.Omega.{arith}
 use Rattle.editing.proofs.Splices.{splice-done}
 use borrow.Author.Needs.{needs}
 use Rattle.editing.proofs.splicing.splice.Statement.{statement}
@@ -29,8 +28,13 @@ same-length c = search needs
 
 returns : tie.Need-returns
 returns c =
-    splice-done _ _ _ _ _ _ _ _ (c .before .before .before .before .before .before .before .before .before .before .before .before .before .before .before .before .before .before .before .before .before .before .pre .0 .row (c .before .before .before .before .before .before .before .before .before .before .before .before .before .before .before .before .before .before .before .before .before .before .args .s .row) (c .before .before .before .before .before .before .before .before .before .before .before .before .before .before .before .before .before .before .before .before .before .before .pre .1)) (c .before .before .before .before .before .before .before .before .before .before .before .before .before .before .before .before .before .before .before .before .before .before .pre .2) (c .before .before .before .before .before .before .before .before .before .before .before .before .before .before .before .before .before .before .before .before .before .before .pre .6) (c .before .before .before .before .before .before .before .before .before .before .before .before .before .before .before .before .before .before .before .before .before .before .pre .7) _ (c .before .before .before .before .before .before .before .before .before .before .before .before .before .before .copy .ensures)
-    (c .before .before .before .before .before .before .before .before .before .before .write-component .ensures) (c .before .before .before .before .before .before .copy2 .ensures) (c .before .before .put-mark .ensures)
+    let c6 = c .before .before .before .before .before .before in
+    let c10 = c6 .before .before .before .before in
+    let c14 = c10 .before .before .before .before in
+    let start = c14 .before .before .before .before .before .before .before .before in
+    splice-done _ _ _ _ _ _ _ _ (start .pre .0 .row (start .args .s .row) (start .pre .1)) (start .pre .2)
+    (start .pre .6) (start .pre .7) _ (c14 .copy .ensures)
+    (c10 .write-component .ensures) (c6 .copy2 .ensures) (c .before .before .put-mark .ensures)
 
 pub splice-spec : {M : Type 1} → statement M
 splice-spec =

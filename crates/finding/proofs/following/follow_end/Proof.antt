@@ -22,17 +22,31 @@ enum-known-c c = search needs
 
 sub-t19 : tie.Need-sub-t19
 sub-t19 c =
-    let below = below-known 8 (c .before .before .before .before .before .before .before .before .before .before .args .msg .now) (λ i. c .before .before .before .before .before .before .before .shared-slice-known3 .given i .fits) in
-    omega (arith, counted-more _ _ _ _ _ _ _ _ _ _ (c .before .before .before .before .before .before .before .before .before .before .pre .2) below (c .before .before .before .before .pass-component .ensures .went _ (c .before .before .c .given .1)))
+    let c4 = c .before .before .before .before in
+    let c7 = c4 .before .before .before in
+    let start = c7 .before .before .before in
+    let below = below-known 8 (start .args .msg .now) (λ i. c7 .shared-slice-known3 .given i .fits) in
+    omega (
+      arith,
+      counted-more _ _ _ _ _ _ _ _ _ _ (start .pre .2) below (c4 .pass-component .ensures .went _
+          (c .before .before .c .given .1)),
+    )
 
 returns : tie.Need-returns
-returns c = follows-fault _ (c .before .before .before .pass-component .ensures .stopped _ (c .before .f .given .1))
+returns c =
+    let c3 = c .before .before .before in
+    follows-fault _ (c3 .pass-component .ensures .stopped _ (c .before .f .given .1))
 
 returns-2 : tie.Need-returns-2
 returns-2 c =
-    let below = below-known 8 (c .before .before .before .before .before .before .before .before .before .before .args .msg .now) (λ i. c .before .before .before .before .before .before .before .shared-slice-known3 .given i .fits) in
-    follows-found (end-finds _ _ _ _ _ _ _ _ _ _ (c .before .before .before .before .before .before .before .before .before .before .pre .2) below (c .before .before .before .before .pass-component .ensures .went _ (c .before .before .c .given .1)) _
-    (c .before .before .before .before .before .is-absent .ensures) (c .before .before .before .before .before .before .before .before .before .before .pre .6) (c .before .before .before .before .before .before .before .before .before .before .pre .1) (c .before .before .before .before .before .before .before .before .before .before .pre .4) _ _ (c .before .before .before .before .before .before .before .before .before .before .pre .7))
+    let c4 = c .before .before .before .before in
+    let c5 = c4 .before in
+    let c7 = c5 .before .before in
+    let start = c7 .before .before .before in
+    let below = below-known 8 (start .args .msg .now) (λ i. c7 .shared-slice-known3 .given i .fits) in
+    follows-found (end-finds _ _ _ _ _ _ _ _ _ _ (start .pre .2) below (c4 .pass-component .ensures .went _
+    (c .before .before .c .given .1)) _
+    (c5 .is-absent .ensures) (start .pre .6) (start .pre .1) (start .pre .4) _ _ (start .pre .7))
 
 pub follow-end-spec : {M : Type 1} → statement M
 follow-end-spec =

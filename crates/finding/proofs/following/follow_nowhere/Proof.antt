@@ -15,11 +15,16 @@ enum-known-c : tie.Need-enum-known-c
 enum-known-c c = search needs
 
 returns : tie.Need-returns
-returns c = follows-fault _ (c .before .before .before .pass-component .ensures .stopped _ (c .before .f .given .1))
+returns c =
+    let c3 = c .before .before .before in
+    follows-fault _ (c3 .pass-component .ensures .stopped _ (c .before .f .given .1))
 
 returns-2 : tie.Need-returns-2
 returns-2 c =
-    follows-lost (none-loses _ _ _ _ _ _ _ _ _ _ _ _ (c .before .before .before .before .before .before .before .before .pre .7) (c .before .before .before .before .before .before .before .before .pre .8) (c .before .before .before .pass-component .ensures .went _ (c .before .c .given .1)))
+    let c3 = c .before .before .before in
+    let start = c3 .before .before .before .before .before in
+    follows-lost (none-loses _ _ _ _ _ _ _ _ _ _ _ _ (start .pre .7) (start .pre .8)
+    (c3 .pass-component .ensures .went _ (c .before .c .given .1)))
 
 pub follow-nowhere-spec : {M : Type 1} → statement M
 follow-nowhere-spec =

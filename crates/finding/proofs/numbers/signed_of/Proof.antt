@@ -1,8 +1,5 @@
 use Prim.Native.Nat.{_-_}
 use mathlib.Core.Path.{_≡_}
-use mathlib.Core.Path.{ap}
-use mir.Syntax.{w64}
-use mir.Val.{toZ}
 use native.Mathlib.Omega.{arith}
 use borrow.Author.Needs.{needs}
 use Rattle.finding.proofs.numbers.signed_of.Statement.{statement}
@@ -18,7 +15,8 @@ returns : tie.Need-returns
 returns c = search needs
 
 returns-2 : tie.Need-returns-2
-returns-2 c = let e : 18446744073709551615 - (18446744073709551615 - c .before .args .w) ≡ c .before .args .w = omega arith in rw e
+returns-2 c = let e : 18446744073709551615 - (18446744073709551615 - c .before .args .w) ≡ c .before .args .w = omega
+    arith in rw e
 
 pub signed-of-spec : {M : Type 1} → statement M
 signed-of-spec = tie.close (tie.spec cast-result cast-result-2 returns returns-2)

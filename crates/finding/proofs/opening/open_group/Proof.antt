@@ -27,14 +27,16 @@ returns-3 c = search needs
 
 open-choice-requires : tie.Need-open-choice-requires
 open-choice-requires c κs =
-    let sound = c .before .before .before .before .before .before .before .pre .0 .row (c .before .before .before .before .before .before .before .args .row) (c .before .before .before .before .before .before .before .pre .1) in
+    let c3 = c .before .before .before in
+    let start = c3 .before .before .before .before in
+    let sound = start .pre .0 .row (start .args .row) (start .pre .1) in
     let (_, most) = kind-known _ _ _ sound in (
-      c .before .before .before .before .before .before .before .pre .0,
-      c .before .before .before .before .before .before .before .pre .1,
-      c .before .before .before .before .before .before .before .pre .2,
-      c .before .before .before .before .before .before .before .pre .3,
-      c .before .before .before .before .before .before .before .pre .4,
-      omega (arith, most, c .before .before .before .row-kind .ensures, c .before .before .if1 .left, c .before .if2 .left, c .if3 .left),
+      start .pre .0,
+      start .pre .1,
+      start .pre .2,
+      start .pre .3,
+      start .pre .4,
+      omega (arith, most, c3 .row-kind .ensures, c .before .before .if1 .left, c .before .if2 .left, c .if3 .left),
     )
 
 returns-4 : tie.Need-returns-4

@@ -1,7 +1,6 @@
 -- The preamble, then the components before the step's own: one law for each return.
 -- Assumes nothing.
-use mathlib.Core.Path.{refl, _∙_}
-use Prim.Native.Nat.{_+_}
+use mathlib.Core.Path.{refl}
 use native.Mathlib.Omega.{arith}
 use native.Mathlib.Nat.{add-assoc}
 use Rattle.x696.specs.TableRows.{sequence-row}
@@ -21,20 +20,31 @@ row-count-requires c κs = search needs
 
 returns : tie.Need-returns
 returns c =
-    let sound = c .before .before .before .before .before .before .pre .0 .row (c .before .before .before .before .before .before .args .row) (c .before .before .before .before .before .before .pre .1) in
-    opened-nowhere (past-components _ _ _ _ _ _ (c .before .before .before .before .before .before .pre .2) sound (c .before .before .before .before .before .before .pre .5) _ _ _ (c .before .before .row-first .ensures)
+    let start = c .before .before .before .before .before .before in
+    let sound = start .pre .0 .row (start .args .row) (start .pre .1) in
+    opened-nowhere (past-components _ _ _ _ _ _ (start .pre .2) sound (start .pre .5) _ _ _
+    (c .before .before .row-first .ensures)
     (c .before .row-count .ensures) (c .if1 .taken))
 
 add-own : tie.Need-add-own
 add-own c =
-    let sound = c .before .before .before .before .before .before .pre .0 .row (c .before .before .before .before .before .before .args .row) (c .before .before .before .before .before .before .pre .1) in
-    let row = sequence-row _ _ _ sound (c .before .before .before .before .before .before .pre .5) in
-    omega (arith, row .range, c .before .before .before .before .before .before .pre .0 .fewItems, c .before .before .row-first .ensures, c .before .row-count .ensures, c .if1 .left)
+    let start = c .before .before .before .before .before .before in
+    let sound = start .pre .0 .row (start .args .row) (start .pre .1) in
+    let row = sequence-row _ _ _ sound (start .pre .5) in
+    omega (
+      arith,
+      row .range,
+      start .pre .0 .fewItems,
+      c .before .before .row-first .ensures,
+      c .before .row-count .ensures,
+      c .if1 .left,
+    )
 
 count-marked-requires : tie.Need-count-marked-requires
 count-marked-requires c κs =
-    let sound = c .before .before .before .before .before .before .pre .0 .row (c .before .before .before .before .before .before .args .row) (c .before .before .before .before .before .before .pre .1) in
-    let row = sequence-row _ _ _ sound (c .before .before .before .before .before .before .pre .5) in
+    let start = c .before .before .before .before .before .before in
+    let sound = start .pre .0 .row (start .args .row) (start .pre .1) in
+    let row = sequence-row _ _ _ sound (start .pre .5) in
     omega (arith, row .range, c .before .before .row-first .ensures, c .before .row-count .ensures, c .if1 .left)
 
 sub-count-marked : tie.Need-sub-count-marked
@@ -42,9 +52,11 @@ sub-count-marked c = search needs
 
 count-marked-requires-2 : tie.Need-count-marked-requires-2
 count-marked-requires-2 c κs =
-    let sound = c .before .before .before .before .before .before .before .pre .0 .row (c .before .before .before .before .before .before .before .args .row) (c .before .before .before .before .before .before .before .pre .1) in
-    let row = sequence-row _ _ _ sound (c .before .before .before .before .before .before .before .pre .5) in
-    omega (arith, row .range, c .before .before .before .row-first .ensures, c .before .before .row-count .ensures, c .before .if1 .left)
+    let c3 = c .before .before .before in
+    let start = c3 .before .before .before .before in
+    let sound = start .pre .0 .row (start .args .row) (start .pre .1) in
+    let row = sequence-row _ _ _ sound (start .pre .5) in
+    omega (arith, row .range, c3 .row-first .ensures, c .before .before .row-count .ensures, c .before .if1 .left)
 
 add-bits : tie.Need-add-bits
 add-bits c = search needs
@@ -54,27 +66,58 @@ sub-if2 c = search needs
 
 add-if2 : tie.Need-add-if2
 add-if2 c =
-    let sound = c .before .before .before .before .before .before .before .before .pre .0 .row (c .before .before .before .before .before .before .before .before .args .row) (c .before .before .before .before .before .before .before .before .pre .1) in
-    let row = sequence-row _ _ _ sound (c .before .before .before .before .before .before .before .before .pre .5) in
-    omega (arith, row .range, c .before .before .before .before .before .before .before .before .pre .0 .fewItems, c .before .before .before .before .row-first .ensures, c .before .before .before .row-count .ensures, c .before .before .if1 .left, c .before .count-marked .ensures .1, c .count-marked2 .ensures .1)
+    let c3 = c .before .before .before in
+    let c4 = c3 .before in
+    let start = c4 .before .before .before .before in
+    let sound = start .pre .0 .row (start .args .row) (start .pre .1) in
+    let row = sequence-row _ _ _ sound (start .pre .5) in
+    omega (
+      arith,
+      row .range,
+      start .pre .0 .fewItems,
+      c4 .row-first .ensures,
+      c3 .row-count .ensures,
+      c .before .before .if1 .left,
+      c .before .count-marked .ensures .1,
+      c .count-marked2 .ensures .1,
+    )
 
 refuse-requires : tie.Need-refuse-requires
 refuse-requires c κs = search needs
 
 returns-2 : tie.Need-returns-2
 returns-2 c =
-    let sound = c .before .before .before .before .before .before .before .before .before .before .pre .0 .row (c .before .before .before .before .before .before .before .before .before .before .args .row) (c .before .before .before .before .before .before .before .before .before .before .pre .1) in
-    opened-refused (preamble-stops _ _ _ _ _ _ (c .before .before .before .before .before .before .before .before .before .before .pre .2) sound (c .before .before .before .before .before .before .before .before .before .before .pre .5) _ _ _ (c .before .before .before .before .before .before .row-first .ensures)
-    (c .before .before .before .before .before .row-count .ensures)
-    (all-marks _ _ _ _ _ _ (c .before .before .before .before .if1 .left) (c .before .before .before .count-marked .ensures .0) (c .before .before .count-marked2 .ensures .0))
-    (preamble-short _ _ _ (c .before .before .before .before .before .before .before .before .before .before .pre .2) (c .before .if2 .taken))) (c .refuse .ensures)
+    let c3 = c .before .before .before in
+    let c4 = c3 .before in
+    let c5 = c4 .before in
+    let c6 = c5 .before in
+    let start = c6 .before .before .before .before in
+    let sound = start .pre .0 .row (start .args .row) (start .pre .1) in
+    opened-refused (preamble-stops _ _ _ _ _ _ (start .pre .2) sound (start .pre .5) _ _ _ (c6 .row-first .ensures)
+    (c5 .row-count .ensures)
+    (all-marks _ _ _ _ _ _ (c4 .if1 .left) (c3 .count-marked .ensures .0)
+    (c .before .before .count-marked2 .ensures .0))
+    (preamble-short _ _ _ (start .pre .2) (c .before .if2 .taken))) (c .refuse .ensures)
 
 is-padded-requires : tie.Need-is-padded-requires
 is-padded-requires c κs =
-    let sound = c .before .before .before .before .before .before .before .before .before .pre .0 .row (c .before .before .before .before .before .before .before .before .before .args .row) (c .before .before .before .before .before .before .before .before .before .pre .1) in
-    let row = sequence-row _ _ _ sound (c .before .before .before .before .before .before .before .before .before .pre .5) in (
-      omega (arith, row .range, c .before .before .before .before .before .before .before .before .before .pre .0 .fewItems, c .before .before .before .before .before .row-first .ensures, c .before .before .before .before .row-count .ensures, c .before .before .before .if1 .left, c .before .before .count-marked .ensures .1, c .before .count-marked2 .ensures .1),
-      omega (arith, c .before .before .before .before .before .before .before .before .before .pre .2, c .if2 .left),
+    let c3 = c .before .before .before in
+    let c4 = c3 .before in
+    let c5 = c4 .before in
+    let start = c5 .before .before .before .before in
+    let sound = start .pre .0 .row (start .args .row) (start .pre .1) in
+    let row = sequence-row _ _ _ sound (start .pre .5) in (
+      omega (
+        arith,
+        row .range,
+        start .pre .0 .fewItems,
+        c5 .row-first .ensures,
+        c4 .row-count .ensures,
+        c3 .if1 .left,
+        c .before .before .count-marked .ensures .1,
+        c .before .count-marked2 .ensures .1,
+      ),
+      omega (arith, start .pre .2, c .if2 .left),
     )
 
 refuse-requires-2 : tie.Need-refuse-requires-2
@@ -82,11 +125,19 @@ refuse-requires-2 c κs = search needs
 
 returns-3 : tie.Need-returns-3
 returns-3 c =
-    let sound = c .before .before .before .before .before .before .before .before .before .before .before .before .pre .0 .row (c .before .before .before .before .before .before .before .before .before .before .before .before .args .row) (c .before .before .before .before .before .before .before .before .before .before .before .before .pre .1) in
-    opened-refused (preamble-stops _ _ _ _ _ _ (c .before .before .before .before .before .before .before .before .before .before .before .before .pre .2) sound (c .before .before .before .before .before .before .before .before .before .before .before .before .pre .5) _ _ _ (c .before .before .before .before .before .before .before .before .row-first .ensures)
-    (c .before .before .before .before .before .before .before .row-count .ensures)
-    (all-marks _ _ _ _ _ _ (c .before .before .before .before .before .before .if1 .left) (c .before .before .before .before .before .count-marked .ensures .0) (c .before .before .before .before .count-marked2 .ensures .0))
-    (preamble-padded _ _ _ (c .before .before .before .before .before .before .before .before .before .before .before .before .pre .2) (c .before .before .before .if2 .left) _ (c .before .before .is-padded .ensures) (c .before .if3 .taken)))
+    let c3 = c .before .before .before in
+    let c4 = c3 .before in
+    let c5 = c4 .before in
+    let c6 = c5 .before in
+    let c7 = c6 .before in
+    let c8 = c7 .before in
+    let start = c8 .before .before .before .before in
+    let sound = start .pre .0 .row (start .args .row) (start .pre .1) in
+    opened-refused (preamble-stops _ _ _ _ _ _ (start .pre .2) sound (start .pre .5) _ _ _ (c8 .row-first .ensures)
+    (c7 .row-count .ensures)
+    (all-marks _ _ _ _ _ _ (c6 .if1 .left) (c5 .count-marked .ensures .0) (c4 .count-marked2 .ensures .0))
+    (preamble-padded _ _ _ (start .pre .2) (c3 .if2 .left) _ (c .before .before .is-padded .ensures)
+    (c .before .if3 .taken)))
     (c .refuse2 .ensures)
 
 add-pass-components : tie.Need-add-pass-components
@@ -100,16 +151,32 @@ add-pass-components-3 c = search needs
 
 pass-components-requires : tie.Need-pass-components-requires
 pass-components-requires c κs =
-    let sound = c .before .before .before .before .before .before .before .before .before .before .before .pre .0 .row (c .before .before .before .before .before .before .before .before .before .before .before .args .row) (c .before .before .before .before .before .before .before .before .before .before .before .pre .1) in
-    let row = sequence-row _ _ _ sound (c .before .before .before .before .before .before .before .before .before .before .before .pre .5) in (
-      c .before .before .before .before .before .before .before .before .before .before .before .pre .0,
-      c .before .before .before .before .before .before .before .before .before .before .before .pre .1,
-      omega (arith, c .before .before .before .before .before .before .before .before .before .before .before .pre .2, c .before .before .if2 .left),
-      c .before .before .before .before .before .before .before .before .before .before .before .pre .3,
-      omega (arith, row .range, c .before .before .before .before .before .before .before .row-first .ensures, c .before .before .before .before .before .before .row-count .ensures, c .before .before .before .before .before .if1 .left),
-      (λ j l. rw (c .before .before .before .before .before .before .before .row-first .ensures) (row .component j (omega (arith, l, c .before .before .before .before .before .before .row-count .ensures, c .before .before .before .before .before .if1 .left)))),
-      c .before .before .before .before .before .before .before .before .before .before .before .pre .2,
-      omega (arith, row .range, c .before .before .before .before .before .before .before .before .before .before .before .pre .0 .fewItems, c .before .before .before .before .before .before .before .row-first .ensures, c .before .before .before .before .before .before .row-count .ensures, c .before .before .before .before .before .if1 .left),
+    let c5 = c .before .before .before .before .before in
+    let c6 = c5 .before in
+    let c7 = c6 .before in
+    let start = c7 .before .before .before .before in
+    let sound = start .pre .0 .row (start .args .row) (start .pre .1) in
+    let row = sequence-row _ _ _ sound (start .pre .5) in (
+      start .pre .0,
+      start .pre .1,
+      omega (arith, start .pre .2, c .before .before .if2 .left),
+      start .pre .3,
+      omega (arith, row .range, c7 .row-first .ensures, c6 .row-count .ensures, c5 .if1 .left),
+      (λ j l. rw (c7 .row-first .ensures) (row .component j (omega (
+        arith,
+        l,
+        c6 .row-count .ensures,
+        c5 .if1 .left,
+      )))),
+      start .pre .2,
+      omega (
+        arith,
+        row .range,
+        start .pre .0 .fewItems,
+        c7 .row-first .ensures,
+        c6 .row-count .ensures,
+        c5 .if1 .left,
+      ),
     )
 
 enum-known-f : tie.Need-enum-known-f
@@ -120,33 +187,60 @@ enum-known-c c = search needs
 
 component-row-requires : tie.Need-component-row-requires
 component-row-requires c κs =
-    let sound = c .before .before .before .before .before .before .before .before .before .before .before .before .before .before .before .pre .0 .row (c .before .before .before .before .before .before .before .before .before .before .before .before .before .before .before .args .row) (c .before .before .before .before .before .before .before .before .before .before .before .before .before .before .before .pre .1) in
-    let row = sequence-row _ _ _ sound (c .before .before .before .before .before .before .before .before .before .before .before .before .before .before .before .pre .5) in
-    omega (arith, row .range, c .before .before .before .before .before .before .before .before .before .before .before .row-first .ensures, c .before .before .before .before .before .before .before .before .before .before .row-count .ensures, c .before .before .before .before .before .before .before .before .before .if1 .left)
+    let c9 = c .before .before .before .before .before .before .before .before .before in
+    let c10 = c9 .before in
+    let c11 = c10 .before in
+    let start = c11 .before .before .before .before in
+    let sound = start .pre .0 .row (start .args .row) (start .pre .1) in
+    let row = sequence-row _ _ _ sound (start .pre .5) in
+    omega (arith, row .range, c11 .row-first .ensures, c10 .row-count .ensures, c9 .if1 .left)
 
 component-mark-requires : tie.Need-component-mark-requires
 component-mark-requires c κs =
-    let sound = c .before .before .before .before .before .before .before .before .before .before .before .before .before .before .before .before .pre .0 .row (c .before .before .before .before .before .before .before .before .before .before .before .before .before .before .before .before .args .row) (c .before .before .before .before .before .before .before .before .before .before .before .before .before .before .before .before .pre .1) in
-    let row = sequence-row _ _ _ sound (c .before .before .before .before .before .before .before .before .before .before .before .before .before .before .before .before .pre .5) in
-    omega (arith, row .range, c .before .before .before .before .before .before .before .before .before .before .before .before .row-first .ensures, c .before .before .before .before .before .before .before .before .before .before .before .row-count .ensures, c .before .before .before .before .before .before .before .before .before .before .if1 .left)
+    let c10 = c .before .before .before .before .before .before .before .before .before .before in
+    let c11 = c10 .before in
+    let c12 = c11 .before in
+    let start = c12 .before .before .before .before in
+    let sound = start .pre .0 .row (start .args .row) (start .pre .1) in
+    let row = sequence-row _ _ _ sound (start .pre .5) in
+    omega (arith, row .range, c12 .row-first .ensures, c11 .row-count .ensures, c10 .if1 .left)
 
 component-default-requires : tie.Need-component-default-requires
 component-default-requires c κs =
-    let sound = c .before .before .before .before .before .before .before .before .before .before .before .before .before .before .before .before .before .pre .0 .row (c .before .before .before .before .before .before .before .before .before .before .before .before .before .before .before .before .before .args .row) (c .before .before .before .before .before .before .before .before .before .before .before .before .before .before .before .before .before .pre .1) in
-    let row = sequence-row _ _ _ sound (c .before .before .before .before .before .before .before .before .before .before .before .before .before .before .before .before .before .pre .5) in
-    omega (arith, row .range, c .before .before .before .before .before .before .before .before .before .before .before .before .before .row-first .ensures, c .before .before .before .before .before .before .before .before .before .before .before .before .row-count .ensures, c .before .before .before .before .before .before .before .before .before .before .before .if1 .left)
+    let c11 = c .before .before .before .before .before .before .before .before .before .before .before in
+    let c12 = c11 .before in
+    let c13 = c12 .before in
+    let start = c13 .before .before .before .before in
+    let sound = start .pre .0 .row (start .args .row) (start .pre .1) in
+    let row = sequence-row _ _ _ sound (start .pre .5) in
+    omega (arith, row .range, c13 .row-first .ensures, c12 .row-count .ensures, c11 .if1 .left)
 
 add-t29 : tie.Need-add-t29
 add-t29 c =
-    let sound = c .before .before .before .before .before .before .before .before .before .before .before .before .before .before .before .before .before .before .pre .0 .row (c .before .before .before .before .before .before .before .before .before .before .before .before .before .before .before .before .before .before .args .row) (c .before .before .before .before .before .before .before .before .before .before .before .before .before .before .before .before .before .before .pre .1) in
-    let row = sequence-row _ _ _ sound (c .before .before .before .before .before .before .before .before .before .before .before .before .before .before .before .before .before .before .pre .5) in
-    omega (arith, row .range, c .before .before .before .before .before .before .before .before .before .before .before .before .before .before .before .before .before .before .pre .0 .fewItems, c .before .before .before .before .before .before .before .before .before .before .before .before .before .before .row-first .ensures, c .before .before .before .before .before .before .before .before .before .before .before .before .before .row-count .ensures, c .before .before .before .before .before .before .before .before .before .before .before .before .if1 .left)
+    let c12 = c .before .before .before .before .before .before .before .before .before .before .before .before in
+    let c13 = c12 .before in
+    let c14 = c13 .before in
+    let start = c14 .before .before .before .before in
+    let sound = start .pre .0 .row (start .args .row) (start .pre .1) in
+    let row = sequence-row _ _ _ sound (start .pre .5) in
+    omega (
+      arith,
+      row .range,
+      start .pre .0 .fewItems,
+      c14 .row-first .ensures,
+      c13 .row-count .ensures,
+      c12 .if1 .left,
+    )
 
 is-marked-requires : tie.Need-is-marked-requires
 is-marked-requires c κs =
-    let sound = c .before .before .before .before .before .before .before .before .before .before .before .before .before .before .before .before .before .before .pre .0 .row (c .before .before .before .before .before .before .before .before .before .before .before .before .before .before .before .before .before .before .args .row) (c .before .before .before .before .before .before .before .before .before .before .before .before .before .before .before .before .before .before .pre .1) in
-    let row = sequence-row _ _ _ sound (c .before .before .before .before .before .before .before .before .before .before .before .before .before .before .before .before .before .before .pre .5) in
-    omega (arith, row .range, c .before .before .before .before .before .before .before .before .before .before .before .before .before .before .row-first .ensures, c .before .before .before .before .before .before .before .before .before .before .before .before .before .row-count .ensures, c .before .before .before .before .before .before .before .before .before .before .before .before .if1 .left)
+    let c12 = c .before .before .before .before .before .before .before .before .before .before .before .before in
+    let c13 = c12 .before in
+    let c14 = c13 .before in
+    let start = c14 .before .before .before .before in
+    let sound = start .pre .0 .row (start .args .row) (start .pre .1) in
+    let row = sequence-row _ _ _ sound (start .pre .5) in
+    omega (arith, row .range, c14 .row-first .ensures, c13 .row-count .ensures, c12 .if1 .left)
 
 add-t31 : tie.Need-add-t31
 add-t31 c = search needs
@@ -159,23 +253,50 @@ sub-t33 c = search needs
 
 returns-4 : tie.Need-returns-4
 returns-4 c =
-    let sound = c .before .before .before .before .before .before .before .before .before .before .before .before .before .before .before .pre .0 .row (c .before .before .before .before .before .before .before .before .before .before .before .before .before .before .before .args .row) (c .before .before .before .before .before .before .before .before .before .before .before .before .before .before .before .pre .1) in
-    let below = below-known 8 (c .before .before .before .before .before .before .before .before .before .before .before .before .before .before .before .args .msg .now) (λ i. c .before .before .before .before .before .before .before .before .before .before .before .before .shared-slice-known3 .given i .fits) in
-    opened-fault _ (before-stops _ _ _ _ _ _ (c .before .before .before .before .before .before .before .before .before .before .before .before .before .before .before .pre .2) sound (c .before .before .before .before .before .before .before .before .before .before .before .before .before .before .before .pre .5) _ _ _ (c .before .before .before .before .before .before .before .before .before .before .before .row-first .ensures)
-    (c .before .before .before .before .before .before .before .before .before .before .row-count .ensures) (c .before .before .before .before .before .before .before .before .before .if1 .left) _ _ (c .before .before .before .before .before .before .before .before .count-marked .ensures .0) (c .before .before .before .before .before .before .before .count-marked2 .ensures .0) below
-    (preamble-got _ _ _ (c .before .before .before .before .before .before .before .before .before .before .before .before .before .before .before .pre .2) (c .before .before .before .before .before .before .if2 .left) _ (c .before .before .before .before .before .is-padded .ensures) (c .before .before .before .before .if3 .left))
-    (c .before .before .before .pass-components .ensures .stopped _ (c .before .f .given .1)))
+    let c3 = c .before .before .before in
+    let c4 = c3 .before in
+    let c5 = c4 .before in
+    let c6 = c5 .before in
+    let c7 = c6 .before in
+    let c8 = c7 .before in
+    let c9 = c8 .before in
+    let c10 = c9 .before in
+    let c11 = c10 .before in
+    let c12 = c11 .before in
+    let start = c12 .before .before .before in
+    let sound = start .pre .0 .row (start .args .row) (start .pre .1) in
+    let below = below-known 8 (start .args .msg .now) (λ i. c12 .shared-slice-known3 .given i .fits) in
+    opened-fault _ (before-stops _ _ _ _ _ _ (start .pre .2) sound (start .pre .5) _ _ _ (c11 .row-first .ensures)
+    (c10 .row-count .ensures) (c9 .if1 .left) _ _ (c8 .count-marked .ensures .0) (c7 .count-marked2 .ensures .0) below
+    (preamble-got _ _ _ (start .pre .2) (c6 .if2 .left) _ (c5 .is-padded .ensures) (c4 .if3 .left))
+    (c3 .pass-components .ensures .stopped _ (c .before .f .given .1)))
 
 returns-5 : tie.Need-returns-5
 returns-5 c =
-    let sound = c .before .before .before .before .before .before .before .before .before .before .before .before .before .before .before .before .before .before .before .pre .0 .row (c .before .before .before .before .before .before .before .before .before .before .before .before .before .before .before .before .before .before .before .args .row) (c .before .before .before .before .before .before .before .before .before .before .before .before .before .before .before .before .before .before .before .pre .1) in
-    let below = below-known 8 (c .before .before .before .before .before .before .before .before .before .before .before .before .before .before .before .before .before .before .before .args .msg .now) (λ i. c .before .before .before .before .before .before .before .before .before .before .before .before .before .before .before .before .shared-slice-known3 .given i .fits) in
-    opened-into (sequence-leads _ _ _ _ _ _ (c .before .before .before .before .before .before .before .before .before .before .before .before .before .before .before .before .before .before .before .pre .2) sound (c .before .before .before .before .before .before .before .before .before .before .before .before .before .before .before .before .before .before .before .pre .5) _ _ _ (c .before .before .before .before .before .before .before .before .before .before .before .before .before .before .before .row-first .ensures)
-    (c .before .before .before .before .before .before .before .before .before .before .before .before .before .before .row-count .ensures) (c .before .before .before .before .before .before .before .before .before .before .before .before .before .if1 .left) _ _ (c .before .before .before .before .before .before .before .before .before .before .before .before .count-marked .ensures .0) (c .before .before .before .before .before .before .before .before .before .before .before .count-marked2 .ensures .0) below
-    (preamble-got _ _ _ (c .before .before .before .before .before .before .before .before .before .before .before .before .before .before .before .before .before .before .before .pre .2) (c .before .before .before .before .before .before .before .before .before .before .if2 .left) _ (c .before .before .before .before .before .before .before .before .before .is-padded .ensures) (c .before .before .before .before .before .before .before .before .if3 .left))
-    (c .before .before .before .before .before .before .before .pass-components .ensures .went _ (c .before .before .before .before .before .c .given .1)) _ (c .before .before .before .component-row .ensures) (c .before .before .component-mark .ensures)
+    let c3 = c .before .before .before in
+    let c5 = c3 .before .before in
+    let c7 = c5 .before .before in
+    let c8 = c7 .before in
+    let c9 = c8 .before in
+    let c10 = c9 .before in
+    let c11 = c10 .before in
+    let c12 = c11 .before in
+    let c13 = c12 .before in
+    let c14 = c13 .before in
+    let c15 = c14 .before in
+    let c16 = c15 .before in
+    let start = c16 .before .before .before in
+    let sound = start .pre .0 .row (start .args .row) (start .pre .1) in
+    let below = below-known 8 (start .args .msg .now) (λ i. c16 .shared-slice-known3 .given i .fits) in
+    opened-into (sequence-leads _ _ _ _ _ _ (start .pre .2) sound (start .pre .5) _ _ _ (c15 .row-first .ensures)
+    (c14 .row-count .ensures) (c13 .if1 .left) _ _ (c12 .count-marked .ensures .0) (c11 .count-marked2 .ensures .0)
+    below
+    (preamble-got _ _ _ (start .pre .2) (c10 .if2 .left) _ (c9 .is-padded .ensures) (c8 .if3 .left))
+    (c7 .pass-components .ensures .went _ (c5 .c .given .1)) _ (c3 .component-row .ensures)
+    (c .before .before .component-mark .ensures)
     (c .before .component-default .ensures) refl refl refl (add-assoc _ _ _)
-    (rw (c .is-marked .ensures .0) refl) refl (c .before .before .before .before .before .before .before .before .before .before .before .before .count-marked .ensures .1) (c .before .before .before .before .before .before .before .before .before .before .before .before .before .before .before .before .before .before .before .pre .0 .fewItems) (omega (arith, c .before .before .before .before .before .before .before .before .before .before .before .before .before .before .before .before .before .before .before .pre .2, c .before .before .before .before .before .before .before .before .before .before .if2 .left)))
+    (rw (c .is-marked .ensures .0) refl) refl (c12 .count-marked .ensures .1) (start .pre .0 .fewItems) (omega
+    (arith, start .pre .2, c10 .if2 .left)))
 
 pub open-sequence-spec : {M : Type 1} → statement M
 open-sequence-spec =

@@ -1,7 +1,8 @@
 -- Plain, missing or carried: one law for each return.
 -- Assumes nothing.
 use Rattle.octets.proofs.Octets.{below-known}
-use Rattle.finding.proofs.Parts.{passed-by, passed-fault, plain-is, missing-passed, carried-stops, carried-passed}
+use Rattle.finding.proofs.Parts.{passed-by, passed-fault, plain-is, missing-passed, carried-stops}
+use Rattle.finding.proofs.Parts.{carried-passed}
 use borrow.Author.Needs.{needs}
 use Rattle.finding.proofs.passing.pass_component.Statement.{statement}
 use Rattle.finding.proofs.passing.pass_component.Tie as tie
@@ -10,7 +11,9 @@ pass-value-requires : tie.Need-pass-value-requires
 pass-value-requires c κs = search needs
 
 returns : tie.Need-returns
-returns c = passed-by (plain-is _ _ _ _ _ _ _ _ (c .before .before .before .before .before .pre .2) (c .before .if1 .taken)) (c .pass-value .ensures)
+returns c =
+    let start = c .before .before .before .before .before in
+    passed-by (plain-is _ _ _ _ _ _ _ _ (start .pre .2) (c .before .if1 .taken)) (c .pass-value .ensures)
 
 is-present-requires : tie.Need-is-present-requires
 is-present-requires c κs = search needs
@@ -20,7 +23,10 @@ pass-missing-requires c κs = search needs
 
 returns-2 : tie.Need-returns-2
 returns-2 c =
-    missing-passed _ _ _ _ _ _ _ _ (c .before .before .before .before .before .before .before .pre .2) (c .before .before .before .if1 .left) _ (c .before .before .is-present .ensures) (c .before .before .before .before .before .before .before .pre .4) (c .before .if2 .taken)
+    let c3 = c .before .before .before in
+    let start = c3 .before .before .before .before in
+    missing-passed _ _ _ _ _ _ _ _ (start .pre .2) (c3 .if1 .left) _ (c .before .before .is-present .ensures)
+    (start .pre .4) (c .before .if2 .taken)
     (c .pass-missing .ensures)
 
 pass-value-requires-2 : tie.Need-pass-value-requires-2
@@ -37,14 +43,27 @@ check-default-requires c κs = search needs
 
 returns-3 : tie.Need-returns-3
 returns-3 c =
-    passed-fault _ (carried-stops _ _ _ _ _ _ _ _ (c .before .before .before .before .before .before .before .before .before .before .pre .2) (c .before .before .before .before .before .before .if1 .left) _ (c .before .before .before .before .before .is-present .ensures) (c .before .before .before .before .before .before .before .before .before .before .pre .4) (c .before .before .before .before .if2 .left)
-    (c .before .before .before .pass-value2 .ensures .stopped _ (c .before .f .given .1)))
+    let c3 = c .before .before .before in
+    let c4 = c3 .before in
+    let c5 = c4 .before in
+    let c6 = c5 .before in
+    let start = c6 .before .before .before .before in
+    passed-fault _ (carried-stops _ _ _ _ _ _ _ _ (start .pre .2) (c6 .if1 .left) _ (c5 .is-present .ensures)
+    (start .pre .4) (c4 .if2 .left)
+    (c3 .pass-value2 .ensures .stopped _ (c .before .f .given .1)))
 
 returns-4 : tie.Need-returns-4
 returns-4 c =
-    let below = below-known 8 (c .before .before .before .before .before .before .before .before .before .before .before .args .msg .now) (λ i. c .before .before .before .before .before .before .before .before .shared-slice-known3 .given i .fits) in
-    carried-passed _ _ _ _ _ _ _ _ (c .before .before .before .before .before .before .before .before .before .before .before .pre .2) (c .before .before .before .before .before .before .before .if1 .left) _ (c .before .before .before .before .before .before .is-present .ensures) (c .before .before .before .before .before .before .before .before .before .before .before .pre .4) (c .before .before .before .before .before .if2 .left)
-    (c .before .before .before .before .pass-value2 .ensures .went _ (c .before .before .c .given .1)) below (c .check-default .ensures)
+    let c4 = c .before .before .before .before in
+    let c5 = c4 .before in
+    let c6 = c5 .before in
+    let c7 = c6 .before in
+    let c8 = c7 .before in
+    let start = c8 .before .before .before in
+    let below = below-known 8 (start .args .msg .now) (λ i. c8 .shared-slice-known3 .given i .fits) in
+    carried-passed _ _ _ _ _ _ _ _ (start .pre .2) (c7 .if1 .left) _ (c6 .is-present .ensures) (start .pre .4)
+    (c5 .if2 .left)
+    (c4 .pass-value2 .ensures .went _ (c .before .before .c .given .1)) below (c .check-default .ensures)
 
 pub pass-component-spec : {M : Type 1} → statement M
 pass-component-spec =

@@ -1,6 +1,6 @@
 -- The message is measured, read and followed, and its end compared: one law for each return.
 -- Assumes nothing.
-use mathlib.Core.Path.{refl, _∙_}
+use mathlib.Core.Path.{refl}
 use native.Mathlib.Omega.{arith}
 use Rattle.octets.proofs.Octets.{below-known}
 use Rattle.finding.proofs.PlaceLaws.{place-stop, place-found, long-behind, fault-behind, left-behind}
@@ -17,7 +17,20 @@ returns c = place-stop (long-behind _ _ _ (c .before .if1 .taken)) (c .stop .ens
 
 follow-requires : tie.Need-follow-requires
 follow-requires c κs =
-    (c .before .before .before .before .before .pre .0, c .before .before .before .before .before .pre .1, omega arith, omega (arith, c .if1 .left), (omega arith, (λ z. absurd (omega arith)), λ z. refl), omega arith, omega arith)
+    let start = c .before .before .before .before .before in (
+      start .pre .0,
+      start .pre .1,
+      omega arith,
+      omega (arith, c .if1 .left),
+      (
+        omega arith,
+        (λ z. absurd (omega
+            arith)),
+        λ z. refl,
+      ),
+      omega arith,
+      omega arith,
+    )
 
 enum-known-f : tie.Need-enum-known-f
 enum-known-f c = search needs
@@ -33,8 +46,12 @@ stop-requires-3 c κs = search needs
 
 returns-2 : tie.Need-returns-2
 returns-2 c =
-    let h = c .before .before .before .before .before .follow .ensures .lost _ (c .before .before .before .l .given .1) in
-    place-stop (left-behind _ _ _ _ _ (omega (arith, c .before .before .before .before .before .before .if1 .left)) (h .reads) (h .inside) (c .before .if2 .taken)) (c .stop3 .ensures)
+    let c3 = c .before .before .before in
+    let c5 = c3 .before .before in
+    let c6 = c5 .before in
+    let h = c5 .follow .ensures .lost _ (c3 .l .given .1) in
+    place-stop (left-behind _ _ _ _ _ (omega (arith, c6 .if1 .left)) (h .reads) (h .inside) (c .before .if2 .taken))
+    (c .stop3 .ensures)
 
 stop-requires-4 : tie.Need-stop-requires-4
 stop-requires-4 c κs = search needs
@@ -47,23 +64,38 @@ stop-requires-5 c κs = search needs
 
 returns-3 : tie.Need-returns-3
 returns-3 c =
-    let h = c .before .before .before .before .before .follow .ensures .found _ (c .before .before .before .w .given .1) in
-    place-stop (left-behind _ _ _ _ _ (omega (arith, c .before .before .before .before .before .before .if1 .left)) (h .reads) (h .inside) (c .before .if3 .taken)) (c .stop5 .ensures)
+    let c3 = c .before .before .before in
+    let c5 = c3 .before .before in
+    let c6 = c5 .before in
+    let h = c5 .follow .ensures .found _ (c3 .w .given .1) in
+    place-stop (left-behind _ _ _ _ _ (omega (arith, c6 .if1 .left)) (h .reads) (h .inside) (c .before .if3 .taken))
+    (c .stop5 .ensures)
 
 returns-4 : tie.Need-returns-4
 returns-4 c =
-    place-stop (fault-behind _ _ _ _ _ (omega (arith, c .before .before .before .before .before .if1 .left)) _ (c .before .before .before .before .follow .ensures .stopped _ (c .before .before .f .given .1))) (c .stop2 .ensures)
+    let c4 = c .before .before .before .before in
+    let c5 = c4 .before in
+    place-stop (fault-behind _ _ _ _ _ (omega (arith, c5 .if1 .left)) _ (c4 .follow .ensures .stopped _
+    (c .before .before .f .given .1))) (c .stop2 .ensures)
 
 returns-5 : tie.Need-returns-5
 returns-5 c =
-    let h = c .before .before .before .before .before .follow .ensures .lost _ (c .before .before .before .l .given .1) in
-    place-stop (lost-at _ _ _ _ _ (omega (arith, c .before .before .before .before .before .before .if1 .left)) h (c .before .if2 .left)) (c .stop4 .ensures)
+    let c3 = c .before .before .before in
+    let c5 = c3 .before .before in
+    let c6 = c5 .before in
+    let h = c5 .follow .ensures .lost _ (c3 .l .given .1) in
+    place-stop (lost-at _ _ _ _ _ (omega (arith, c6 .if1 .left)) h (c .before .if2 .left)) (c .stop4 .ensures)
 
 returns-6 : tie.Need-returns-6
 returns-6 c =
-    let h = c .before .before .before .before .follow .ensures .found _ (c .before .before .w .given .1) in
-    let below = below-known 8 (c .before .before .before .before .before .before .before .before .before .before .args .msg .now) (λ i. c .before .before .before .before .before .before .before .shared-slice-known3 .given i .fits) in
-    place-found (found-behind _ _ _ _ _ (omega (arith, c .before .before .before .before .before .if1 .left)) (c .before .before .before .before .before .before .before .before .before .before .pre .0) (c .before .before .before .before .before .before .before .before .before .before .pre .1) below h (c .if3 .left))
+    let c4 = c .before .before .before .before in
+    let c5 = c4 .before in
+    let c7 = c5 .before .before in
+    let start = c7 .before .before .before in
+    let h = c4 .follow .ensures .found _ (c .before .before .w .given .1) in
+    let below = below-known 8 (start .args .msg .now) (λ i. c7 .shared-slice-known3 .given i .fits) in
+    place-found (found-behind _ _ _ _ _ (omega (arith, c5 .if1 .left)) (start .pre .0) (start .pre .1) below h
+    (c .if3 .left))
 
 pub find-below-spec : {M : Type 1} → statement M
 find-below-spec =

@@ -16,14 +16,20 @@ enum-told : tie.Need-enum-told
 enum-told c = search needs
 
 find-below-requires : tie.Need-find-below-requires
-find-below-requires c κs =
-    (sound-table _ _ .0 (c .before .before .asked-row .ensures .ready (c .enum-told .given .1) .0), c .before .before .asked-row .ensures .ready (c .enum-told .given .1) .1)
+find-below-requires c κs = (
+  sound-table _ _ .0 (c .before .before .asked-row .ensures .ready (c .enum-told .given .1) .0),
+  c .before .before .asked-row .ensures .ready (c .enum-told .given .1) .1,
+)
 
 returns : tie.Need-returns
-returns c = place-refused (asked-stop _ _ _ _ _ (c .before .before .before .asked-row .ensures .stopped _ (c .before .r .given .1)))
+returns c =
+    let c3 = c .before .before .before in
+    place-refused (asked-stop _ _ _ _ _ (c3 .asked-row .ensures .stopped _ (c .before .r .given .1)))
 
 returns-2 : tie.Need-returns-2
-returns-2 c = asked-place _ _ _ _ _ (c .before .before .before .asked-row .ensures .ready (c .before .enum-told .given .1) .2) (c .find-below .ensures)
+returns-2 c =
+    let c3 = c .before .before .before in
+    asked-place _ _ _ _ _ (c3 .asked-row .ensures .ready (c .before .enum-told .given .1) .2) (c .find-below .ensures)
 
 pub find-in-spec : {M : Type 1} → statement M
 find-in-spec =

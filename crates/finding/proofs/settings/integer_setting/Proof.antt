@@ -1,6 +1,6 @@
 -- By the type, not by the value.
 -- Assumes nothing.
-use mathlib.Core.Path.{refl, _∙_, sym}
+use mathlib.Core.Path.{_∙_, sym}
 use Rattle.finding.proofs.SettingLaws.{unsigned-setting, signed-setting}
 use borrow.Author.Needs.{needs}
 use Rattle.finding.proofs.settings.integer_setting.Statement.{statement}
@@ -17,7 +17,10 @@ returns c = unsigned-setting _ _ _ (sym (c .before .is-unsigned .ensures) ∙ c 
 
 returns-2 : tie.Need-returns-2
 returns-2 c =
-    signed-setting _ _ _ (sym (c .before .before .is-unsigned .ensures) ∙ c .before .if1 .left) (record { sfits = c .signed-of .ok }) (c .signed-of .ensures)
+    signed-setting _ _ _ (sym (c .before .before .is-unsigned .ensures) ∙ c .before .if1 .left) (record {
+      sfits =
+          c .signed-of .ok;
+    }) (c .signed-of .ensures)
 
 pub integer-setting-spec : {M : Type 1} → statement M
 integer-setting-spec =

@@ -15,26 +15,49 @@ enum-known-w : tie.Need-enum-known-w
 enum-known-w c = search needs
 
 returns : tie.Need-returns
-returns c = setting-absent _ _ _ _ _ (c .before .before .before .before .before .find-in .ensures .went _ (c .before .before .before .w .given .1)) (c .if1 .taken)
+returns c =
+    let c3 = c .before .before .before in
+    let c5 = c3 .before .before in
+    setting-absent _ _ _ _ _ (c5 .find-in .ensures .went _ (c3 .w .given .1)) (c .if1 .taken)
 
 row-kind-requires : tie.Need-row-kind-requires
-row-kind-requires c κs = c .before .before .before .before .before .find-in .ensures .went _ (c .before .before .before .w .given .1) .spot .inside
+row-kind-requires c κs =
+    let c3 = c .before .before .before in
+    let c5 = c3 .before .before in
+    c5 .find-in .ensures .went _ (c3 .w .given .1) .spot .inside
 
 row-flags-requires : tie.Need-row-flags-requires
-row-flags-requires c κs = c .before .before .before .before .before .before .find-in .ensures .went _ (c .before .before .before .before .w .given .1) .spot .inside
+row-flags-requires c κs =
+    let c4 = c .before .before .before .before in
+    let c6 = c4 .before .before in
+    c6 .find-in .ensures .went _ (c4 .w .given .1) .spot .inside
 
 row-a-requires : tie.Need-row-a-requires
-row-a-requires c κs = c .before .before .before .before .before .before .before .find-in .ensures .went _ (c .before .before .before .before .before .w .given .1) .spot .inside
+row-a-requires c κs =
+    let c5 = c .before .before .before .before .before in
+    let c7 = c5 .before .before in
+    c7 .find-in .ensures .went _ (c5 .w .given .1) .spot .inside
 
 setting-of-requires : tie.Need-setting-of-requires
-setting-of-requires c κs = single-small _ _ _ _ _ (c .before .before .before .before .before .before .before .before .find-in .ensures .went _ (c .before .before .before .before .before .before .w .given .1)) (c .before .before .before .if1 .left) (c .before .before .row-kind .ensures)
+setting-of-requires c κs =
+    let c3 = c .before .before .before in
+    let c6 = c3 .before .before .before in
+    let c8 = c6 .before .before in
+    single-small _ _ _ _ _ (c8 .find-in .ensures .went _ (c6 .w .given .1)) (c3 .if1 .left)
+    (c .before .before .row-kind .ensures)
 
 returns-2 : tie.Need-returns-2
-returns-2 c = setting-refused _ _ _ _ _ (c .before .before .before .find-in .ensures .stopped _ (c .before .r .given .1))
+returns-2 c =
+    let c3 = c .before .before .before in
+    setting-refused _ _ _ _ _ (c3 .find-in .ensures .stopped _ (c .before .r .given .1))
 
 returns-3 : tie.Need-returns-3
 returns-3 c =
-    setting-there _ _ _ _ _ (c .before .before .before .before .before .before .before .before .before .find-in .ensures .went _ (c .before .before .before .before .before .before .before .w .given .1)) (c .before .before .before .before .if1 .left) (c .before .before .before .row-kind .ensures)
+    let c3 = c .before .before .before in
+    let c4 = c3 .before in
+    let c7 = c4 .before .before .before in
+    let c9 = c7 .before .before in
+    setting-there _ _ _ _ _ (c9 .find-in .ensures .went _ (c7 .w .given .1)) (c4 .if1 .left) (c3 .row-kind .ensures)
     (c .before .before .row-flags .ensures) (c .before .row-a .ensures) (c .setting-of .ensures)
 
 pub read-setting-spec : {M : Type 1} → statement M

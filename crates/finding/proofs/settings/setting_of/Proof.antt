@@ -28,7 +28,8 @@ returns-2 : tie.Need-returns-2
 returns-2 c = kind-two _ _ _ _ (c .before .match .keys2) (c .integer-setting .ensures)
 
 returns-3 : tie.Need-returns-3
-returns-3 c = kind-three _ _ _ _ (c .before .match .keys3) (record { sfits = c .signed-of .ok }) (c .signed-of .ensures)
+returns-3 c = kind-three _ _ _ _ (c .before .match .keys3) (record { sfits = c .signed-of .ok })
+    (c .signed-of .ensures)
 
 returns-4 : tie.Need-returns-4
 returns-4 c = kind-four _ _ _ _ (c .before .match .keys4) (c .single-of .ensures)

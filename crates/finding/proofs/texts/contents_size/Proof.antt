@@ -1,6 +1,5 @@
 -- A BIT STRING's number counts bits.
 -- Assumes nothing.
-use mathlib.Core.Path.{refl, _∙_}
 use Rattle.finding.proofs.TextLaws.{bits-size, other-size}
 use borrow.Author.Needs.{needs}
 use Rattle.finding.proofs.texts.contents_size.Statement.{statement}
