@@ -39,15 +39,38 @@ fn room_for(len: usize, to: usize, n: usize) -> usize
     if n <= len - to { n } else { len - to }
 }
 
-// Stores n octets of `from`, from `start` on, at `to`, as far as there is room: one loop over what fits.
+// Stores n octets of `from`, from `start` on, at `to`, where all have room.
+fn copy_all(from: &[u8], start: usize, n: usize, out: &mut [u8], to: usize)
+    requires { ⌜ (start + n ≤ length (now from)) × (to + n ≤ max to (length (now out))) ⌝ }
+    ensures { λ _. ⌜ now (out .exit) ≡ sets (now (out .entry)) to (take n (drop start (now (from .entry)))) ⌝ }
+{
+    let mut i = 0;
+    while i < n {
+        out[to + i] = from[start + i];
+        i += 1;
+    }
+}
+
+// The same of 64 octets. All are read before one is stored, so that no test for overlap is needed to copy them as vectors.
+fn copy_block(from: &[u8], start: usize, out: &mut [u8], to: usize)
+    requires { ⌜ (start + 64 ≤ length (now from)) × (to + 64 ≤ length (now out)) ⌝ }
+    ensures { λ _. ⌜ now (out .exit) ≡ sets (now (out .entry)) to (take 64 (drop start (now (from .entry)))) ⌝ }
+{
+    let mut block = [0u8; 64];
+    copy_all(from, start, 64, &mut block, 0);
+    copy_all(&block, 0, 64, out, to);
+}
+
+// Stores n octets of `from`, from `start` on, at `to`, as far as there is room: block by block, then what is left.
 pub fn copy(from: &[u8], start: usize, n: usize, out: &mut [u8], to: usize)
     requires { ⌜ start + n ≤ length (now from) ⌝ }
     ensures { λ _. ⌜ now (out .exit) ≡ sets (now (out .entry)) to (take n (drop start (now (from .entry)))) ⌝ }
 {
     let m = room_for(out.len(), to, n);
-    let mut i = 0;
-    while i < m {
-        out[to + i] = from[start + i];
-        i += 1;
+    let mut i = 0; // octets copied
+    while 64 <= m - i {
+        copy_block(from, start + i, out, to + i);
+        i += 64;
     }
+    copy_all(from, start + i, m - i, out, to + i);
 }
