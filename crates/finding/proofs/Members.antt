@@ -21,6 +21,7 @@ use Rattle.x696.specs.Operations.{nodeLimit}
 use Rattle.x696.specs.Table.{componentRow, componentMark, componentDefault, itemsFrom, componentsFrom, typeOf}
 use Rattle.octets.specs.Presence.{bitAt}
 use Rattle.octets.proofs.Answered.{next-refused, next-got}
+use Rattle.reading.specs.Members.{memberRow, memberMark, memberAt, members}
 use Rattle.finding.specs.Passing.{componentsAt}
 
 -- ---- outcomes
@@ -78,7 +79,7 @@ module _ (rows items msg : List ℕ) (pre : ℕ) where
 
   pub components-stop : (i n b g : ℕ) (s : Message) {k q : ℕ} → i ≤ n
       → componentsAt rows items msg pre b g i s ≡ refused k q → componentsAt rows items msg pre b g n s ≡ refused k q
-  unfolding componentsAt
+  unfolding members memberAt memberMark memberRow
   components-stop zero n b g s h e = absurd (refused-never (sym e))
   components-stop (suc i) zero b g s h e = absurd (omega arith)
   components-stop (suc i) (suc n) b g s h e =
@@ -89,7 +90,7 @@ module _ (rows items msg : List ℕ) (pre : ℕ) where
 
   pub components-many : (i b g : ℕ) (s : Message) {us : Vals} {r : Message}
       → componentsAt rows items msg pre b g i s ≡ got us r → valueCount us ≡ i
-  unfolding componentsAt valueCount
+  unfolding members memberAt memberMark memberRow valueCount
   components-many zero b g s {us} e = let q : noValues ≡ us = cc in rw (← q) refl
   components-many (suc i) b g s {us} e =
       next-inv _ _ e λ v r₁ was then.
@@ -101,7 +102,7 @@ module _ (rows items msg : List ℕ) (pre : ℕ) where
       → componentsAt rows items msg pre b g i s ≡ got us r
       → componentsAt rows items msg pre b g n s
       ≡ joined us (componentsAt rows items msg pre (b + marksOf g i) (g + i) (n - i) r)
-  unfolding componentsAt itemsFrom markCount
+  unfolding members memberAt memberMark memberRow itemsFrom markCount
   components-split zero n b g s {us} {r} h e =
       let q : noValues ≡ us = cc in
       let qr : s ≡ r = cc in
@@ -127,7 +128,7 @@ module _ (rows items msg : List ℕ) (pre : ℕ) where
   pub components-octets : (i b g : ℕ) (s : Message) {us : Vals} {r : Message} → Below 8 (s .octets)
       → componentsAt rows items msg pre b g i s ≡ got us r
       → s .octets ≡ encodeComponents (componentsFrom T items g i) us ++ r .octets
-  unfolding componentsAt itemsFrom encodeComponents ownOctets
+  unfolding members memberAt memberMark memberRow itemsFrom encodeComponents ownOctets
   components-octets zero b g s {us} {r} below e = let qr : s ≡ r = cc in rw (← qr) refl
   components-octets (suc i) b g s {us} {r} below e =
       next-inv _ _ e λ v r₁ was then.

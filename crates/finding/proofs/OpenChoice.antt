@@ -1,24 +1,23 @@
 -- A step into a CHOICE: its tag, and the alternative that the tag names. Nothing stands behind it.
 -- Premises are the callees' `ensures`. Assumes nothing.
 use mathlib.Core.Path.{_≡_, refl, ap, sym, _∙_}
-use mathlib.Core.Bool.{true, _&&_}
+use mathlib.Core.Bool.{true}
 use mathlib.Core.List.{List, []}
 use Prim.Native.Nat.{ℕ, zero, suc, _+_, _<_, _≤_}
 use native.Mathlib.Omega.{arith}
 use native.Mathlib.Nat.{add-zero}
 use lib.ListN.{length, drop, length-append, length-drop}
-use lib.Dec.{eqb}
-use borrow.Author.Tests.{eqb-true}
 use Rattle.x696.specs.Outcome.{Outcome, got, next, choose}
-use Rattle.x696.specs.OutcomeLaws.{cases, and-both, refused-never}
+use Rattle.x696.specs.OutcomeLaws.{refused-never}
 use Rattle.x696.specs.Digits.{Below}
-use Rattle.x696.specs.Tag.{Tag as TagOf, tag, tagOctets, readTag}
+use Rattle.x696.specs.Tag.{tag, tagOctets, readTag}
 use Rattle.x696.specs.TagLaws.{tag-sound}
 use Rattle.x696.specs.Value.{Val, node, Vals, noValues, value, only}
 use Rattle.x696.specs.Types.{Ty, choice, Items, noItems, item, itemCount, alternative, tagAt}
 use Rattle.x696.specs.Read.{Message, message, times, componentBy, read, readComponent}
 use Rattle.x696.specs.Path.{noChild, child, alternativeAt, childAt, childBefore}
 use Rattle.x696.specs.PresencePlace.{bitsBefore}
+use Rattle.x696.specs.Sound.{alternative-tag}
 use Rattle.x696.specs.Operations.{nodeLimit}
 use Rattle.x696.specs.Table.{rowKind, rowFirst, rowCount, tagNumber, alternativeRow, itemsFrom, alternativesFrom}
 use Rattle.x696.specs.Table.{typeOf}
@@ -47,17 +46,6 @@ alternatives-none (item a b t is) zero (value v vs) zero h = absurd (h refl)
 alternatives-none (item a b t is) zero (value v vs) (suc i) h = refl
 alternatives-none (item a b t is) (suc n) (value v vs) zero h = absurd (h refl)
 alternatives-none (item a b t is) (suc n) (value v vs) (suc i) h = alternatives-none is n (value v vs) (suc i) h
-
--- the tag at the place that a tag leads to is that tag
-alternative-tag : (is : Items) (g : TagOf) → alternative is g < itemCount is → tagAt is (alternative is g) ≡ g
-unfolding alternative tagAt itemCount choose
-alternative-tag noItems g h = absurd (omega arith)
-alternative-tag (item a b t is) (tag class n) h =
-    cases (eqb class a && eqb n b)
-    (λ e. let (p, q) = and-both (eqb class a) (eqb n b) e in rw e (cc (eqb-true class a p, eqb-true n b q)))
-    (λ e.
-    let more : suc (alternative is (tag class n)) < suc (itemCount is) = rw e at h in
-    rw e (alternative-tag is (tag class n) (omega arith)))
 
 alternative-child : (f : ℕ → Ty) (items : List ℕ) (n g j : ℕ) (x : Val) (vs : Vals) → j < n
     → alternativeAt (alternativesFrom f items g n) j (value x vs) 0 ≡ child 0 0 (f (alternativeRow items (g + j))) x

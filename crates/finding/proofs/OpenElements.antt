@@ -32,7 +32,8 @@ use Rattle.octets.proofs.Answered.{next-refused, next-got}
 use Rattle.octets.proofs.Octets.{below-drop}
 use Rattle.kinds.specs.Run.{insideAt}
 use Rattle.kinds.specs.declared.cursor.Cursor.{Cursor}
-use Rattle.reading.proofs.Elements.{quantity-first, times-step}
+use Rattle.reading.proofs.Elements.{quantity-first}
+use Rattle.reading.proofs.Groups.{first}
 use Rattle.finding.specs.Passing.{Stood, none}
 use Rattle.finding.specs.Leading.{behindOf, Leads}
 use Rattle.finding.specs.declared.spot.Opening.{Opening}
@@ -46,6 +47,12 @@ unfolding elementAt valueCount
 elements-none t noValues i h = refl
 elements-none t (value v vs) zero h = absurd (omega arith)
 elements-none t (value v vs) (suc i) h = elements-none t vs i (omega arith)
+
+-- the element after i others, and those behind it
+times-step : (f : Message → Outcome Message Val) (n i : ℕ) (s : Message) → i < n
+    → times f (n - i) s ≡ first (f s) (λ s. times f (n - (i + 1)) s)
+unfolding times
+times-step f n i s h = let e : n - i ≡ suc (n - (i + 1)) = omega arith in rw e
 
 module _ (rows items msg : List ℕ) (row at count : ℕ) (inside : at ≤ length msg)
     (sound : rowSound rows items row ≡ true) (is : rowKind rows row ≡ 11) (g inner i : ℕ)

@@ -6,20 +6,15 @@ use mathlib.Core.List.{List, []}
 use Prim.Native.Nat.{ℕ, zero, suc, _+_, _-_, _/_, _<_, _≤_}
 use native.Mathlib.Omega.{arith}
 use native.Mathlib.Nat.{add-zero, zero-add, sub-zero}
-use native.Mathlib.Numerals.{add-one}
-use lib.ListN.{length, drop, getD, length-append, length-drop}
-use lib.Seq.{drop-drop, getD-drop}
-use lib.Dec.{eqb}
-use borrow.Author.Tests.{eqb-true, eqb-false}
+use lib.ListN.{length, drop, length-append, length-drop}
 use Rattle.x696.specs.Outcome.{Outcome, refused, got, next, choose}
-use Rattle.x696.specs.OutcomeLaws.{cases}
 use Rattle.x696.specs.Digits.{Below}
 use Rattle.x696.specs.Bits.{bitOctets, preamble, readPreamble}
 use Rattle.x696.specs.BitsLaws.{preamble-length}
 use Rattle.x696.specs.Value.{Val, node, Vals, noValues, value}
 use Rattle.x696.specs.Types.{Ty, sequence, presenceCount, markCount}
 use Rattle.x696.specs.Encode.{presence, encodeComponents}
-use Rattle.x696.specs.Read.{Message, message, readComponents, read, readComponent}
+use Rattle.x696.specs.Read.{Message, message, readComponent}
 use Rattle.x696.specs.Path.{noChild, componentAt, childAt, componentsBefore, childBefore}
 use Rattle.x696.specs.PresencePlace.{bitsBefore}
 use Rattle.x696.specs.Operations.{nodeLimit}
@@ -29,18 +24,17 @@ use Rattle.x696.specs.TableFault.{rowSound}
 use Rattle.x696.specs.TableRows.{sequence-row}
 use Rattle.x696.specs.TableKinds.{sequence-type}
 use Rattle.octets.specs.Presence.{bitAt}
-use Rattle.octets.proofs.Answered.{next-refused, next-got}
+use Rattle.octets.proofs.Answered.{next-refused}
 use Rattle.octets.proofs.Octets.{below-drop}
-use Rattle.octets.proofs.PresenceBits.{bits-read}
 use Rattle.kinds.specs.Run.{insideAt}
 use Rattle.kinds.specs.declared.cursor.Cursor.{Cursor}
-use Rattle.reading.proofs.Marks.{mark-one}
-use Rattle.reading.proofs.Sequences.{bitsAt, plain-any, preamble-first}
+use Rattle.reading.proofs.Sequences.{bitsAt}
+use Rattle.reading.proofs.Members.{sequence-members}
 use Rattle.finding.specs.Passing.{Stood, componentsAt, none}
 use Rattle.finding.specs.Leading.{behindOf, Leads}
 use Rattle.finding.specs.declared.spot.Opening.{Opening}
 use Rattle.finding.proofs.Parts.{components-step, component-fitting}
-use Rattle.finding.proofs.Members.{append, joined, marksOf, components-stop, components-many, components-split}
+use Rattle.finding.proofs.Members.{append, joined, components-stop, components-many, components-split}
 use Rattle.finding.proofs.Members.{components-octets, component-at, components-before, marks-before}
 use Rattle.finding.proofs.Members.{presence-few}
 use Rattle.finding.proofs.Openings.{group-stops, group-ends, group-gets}
@@ -79,34 +73,6 @@ components-none f items (suc n) g i noValues h = refl
 components-none f items (suc n) g zero (value v vs) h = absurd (omega arith)
 components-none f items (suc n) g (suc i) (value v vs) h = components-none f items n (suc g) i vs (omega arith)
 
--- ---- presence bits that were read are those of the octets
-module _ (rows items msg : List ℕ) (at k : ℕ) (bits : List ℕ)
-    (agree : (b : ℕ) → b < k → getD bits b 0 ≡ bitAt msg at b) where
-  one-bit : (g b : ℕ) (s : Message) → b + presenceCount (componentMark items g) ≤ k
-      → readComponent nodeLimit (componentMark items g) (componentDefault items g)
-      (typeOf rows items (componentRow items g)) (getD (drop b bits) 0 0) (length msg) s
-      ≡ readComponent nodeLimit (componentMark items g) (componentDefault items g)
-      (typeOf rows items (componentRow items g)) (bitAt msg at b) (length msg) s
-  one-bit g b s h =
-      cases (eqb (componentMark items g) 0)
-      (λ e. plain-any (componentMark items g) _ _ _ _ _ _ (eqb-true _ 0 e))
-      (λ e.
-      let one = mark-one (componentMark items g) (eqb-false _ 0 e) in
-      rw (getD-drop b bits 0 0, add-zero b, agree b (omega (arith, one, h))) refl)
-
-  components-same : (n g b : ℕ) (s : Message) → b + marksOf rows items msg at g n ≤ k
-      → readComponents nodeLimit (componentsFrom (λ j. typeOf rows items j) items g n) (drop b bits) (length msg) s
-      ≡ componentsAt rows items msg at b g n s
-  unfolding readComponents componentsAt readComponent read itemsFrom markCount
-  components-same zero g b s h = refl
-  components-same (suc n) g b s h =
-      let one = presenceCount (componentMark items g) in
-      ap (λ o. next o λ v s. next (readComponents nodeLimit (componentsFrom (λ j. typeOf rows items j) items (suc g) n)
-      (drop one (drop b bits)) (length msg) s) λ vs s. got (value v vs) s) (one-bit g b s (omega arith))
-      ∙ next-same _ _ _ λ v s.
-      ap (λ o. next o λ vs s. got (value v vs) s)
-      (rw (drop-drop one b bits) (components-same n (suc g) (b + one) s (omega arith)))
-
 module _ (rows items msg : List ℕ) (row at count : ℕ) (inside : at ≤ length msg)
     (sound : rowSound rows items row ≡ true) (is : rowKind rows row ≡ 10) (g n i : ℕ)
     (eg : g ≡ rowFirst rows row) (en : n ≡ rowCount rows row) where
@@ -136,13 +102,7 @@ module _ (rows items msg : List ℕ) (row at count : ℕ) (inside : at ≤ lengt
         ≡ got (bitsAt msg at (b + c)) (drop (at + bitOctets (b + c)) msg)) where
       members-first : D ≡ next (componentsAt rows items msg at 0 g n S) λ vs s. got (node 10 n [] vs) s
       members-first =
-          preamble-first rows items msg row at count inside sound is g n (b + c) eg en marks
-          ∙ next-got _ bits-got
-          ∙ rw (add-one count)
-          (ap (λ o. next o λ vs s. got (node 10 n [] vs) s)
-          (components-same rows items msg at (b + c) (bitsAt msg at (b + c))
-          (λ j l. bits-read (b + c) at at msg below bits-got j l) n g 0
-          (message (drop (at + bitOctets (b + c)) msg) (suc count)) (omega (arith, marks T))))
+          sequence-members rows items msg row at count inside sound is g n (b + c) 0 eg en marks below bits-got
 
       pub before-stops : {x q : ℕ} → componentsAt rows items msg at 0 g i S ≡ refused x q → D ≡ refused x q
       before-stops e =

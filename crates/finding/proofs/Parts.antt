@@ -5,14 +5,13 @@ use mathlib.Core.Bool.{Bool, true, false, not}
 use mathlib.Core.List.{List}
 use Prim.Native.Nat.{ℕ, zero, suc, _+_, _-_, _<_, _≤_}
 use native.Mathlib.Omega.{arith}
-use native.Mathlib.Nat.{add-zero, sub-zero}
 use lib.ListN.{length, drop}
 use lib.Dec.{eqb}
 use borrow.Author.Tests.{le-leb, lt-leb, eqb-true, eqb-false}
 use Rattle.x696.specs.Outcome.{Outcome, refused, got, next, must, choose}
 use Rattle.x696.specs.OutcomeLaws.{cases, cases-lt}
 use Rattle.x696.specs.Digits.{Below}
-use Rattle.x696.specs.Value.{Val, Vals, noValues, value, same}
+use Rattle.x696.specs.Value.{Val, Vals, value, same}
 use Rattle.x696.specs.Types.{Ty, presenceCount, missing}
 use Rattle.x696.specs.Read.{Message, message, counted, componentBy, read, readComponent}
 use Rattle.x696.specs.Sound.{sound}
@@ -30,9 +29,10 @@ use Rattle.kinds.specs.declared.cursor.Read.{Read}
 use Rattle.kinds.specs.declared.cursor.Read.the-variants.{Got, Refused}
 use Rattle.kinds.proofs.Ran.{offset-is}
 use Rattle.reading.specs.Parts.{checked}
+use Rattle.reading.specs.Members.{memberRow, memberMark, memberAt, members, RanAll}
 use Rattle.reading.proofs.Components.{bit-zero, marked-is}
 use Rattle.reading.proofs.Defaults.{never-absent, default-same, missing-default}
-use Rattle.finding.specs.Passing.{Stood, Passed, Fitting, leftOut, componentsAt}
+use Rattle.finding.specs.Passing.{Stood, Passed, Fitting, leftOut, componentsAt, none}
 
 -- ---- answers
 module _ {A : Type 0} {f : A → ℕ} {msg : List ℕ} {o : Outcome Message A} where
@@ -60,6 +60,17 @@ ran-passed w = record {
       record { what = g .what; reads = g .reads; number = g .number; inside = g .inside };
   stopped = w .stopped;
 }
+
+-- values one after another, read as the members of a group
+module _ {msg : List ℕ} {o q : Outcome Message Vals} {p n u : ℕ} {l b l′ b′ : List ℕ} {r : Read} (e : q ≡ o)
+    (w : RanAll msg o p n u l b l′ b′ r) where
+  pub all-stopped : (f : Fault) → r ≡ Refused f → Passed none msg q (Refused f)
+  all-stopped f g = passed-fault f (e ∙ w .stopped f g)
+
+  pub all-passed : (d : Cursor) {s : Read} → r ≡ Got d → s ≡ Got (cursor (d .at) (d .count) 0 0) → Passed none msg q s
+  all-passed d g =
+      let z = w .went d g in
+      passed-got (record { what = z .what; reads = e ∙ z .reads; number = refl; inside = z .inside })
 
 -- ---- a component that is not carried
 pub left-over : (d at count : ℕ) {r : Read} → 4096 ≤ count → r ≡ Refused (fault 10 at) → r ≡ leftOut d at count
@@ -155,35 +166,7 @@ module _ (t : Ty) (m d : ℕ) (msg : List ℕ) (pre b at count : ℕ) (inside : 
               (λ y. passed-refused (carried-same (is ∙ y)) (rw (s, y) at e))
               (λ y. passed-got (differing (is ∙ y)) (rw (s, y) at e)))
 
--- ---- the rest of a group: what is left, o, ends the whole, o₀
-pub record Left (o₀ o : Outcome Message Vals) : Type 0 where
-  pub stops : (k q : ℕ) → o ≡ refused k q → o₀ ≡ refused k q
-  pub ends : (vs : Vals) (r : Message) → o ≡ got vs r → (ws : Vals) × (o₀ ≡ got ws r)
-
-pub left-start : {o₀ o : Outcome Message Vals} → o₀ ≡ o → Left o₀ o
-left-start e = record { stops = λ k q f. e ∙ f; ends = λ vs r f. (vs, e ∙ f) }
-
-module _ {o₀ o : Outcome Message Vals} (inv : Left o₀ o) {o₁ : Outcome Message Val} (k : Message → Outcome Message Vals)
-    (e : o ≡ next o₁ λ v s. next (k s) λ vs s. got (value v vs) s) where
-  pub left-turn : {v : Val} {s : Message} → o₁ ≡ got v s → Left o₀ (k s)
-  unfolding next
-  left-turn {v} f = record {
-    stops = λ j q g. inv .stops j q (rw (e, f, g));
-    ends = λ vs r g. inv .ends (value v vs) r (rw (e, f, g));
-  }
-
-  pub left-stop : {j q : ℕ} → o₁ ≡ refused j q → o₀ ≡ refused j q
-  unfolding next
-  left-stop {j} {q} f = inv .stops j q (rw (e, f))
-
-pub left-done : {msg : List ℕ} {o₀ o : Outcome Message Vals} {p c : ℕ} {r : Read} → Left o₀ o
-    → o ≡ got noValues (message (drop p msg) c) → p ≤ length msg → r ≡ Got (cursor p c 0 0)
-    → Passed (λ vs. 0) msg o₀ r
-left-done {msg} {p = p} {c} inv e h f =
-    let (ws, g) = inv .ends noValues (message (drop p msg) c) e in
-    passed-got (record { what = ws; reads = g; number = refl; inside = h }) f
-
--- ---- components one after another
+-- ---- the first of some components, and those after it
 module _ (rows items msg : List ℕ) (pre b first n i : ℕ) (s : Message) where
   abbrev pub componentAfter : Message → Outcome Message Vals
   componentAfter = λ s. componentsAt rows items msg pre (b + presenceCount (componentMark items (first + i)))
@@ -194,19 +177,11 @@ module _ (rows items msg : List ℕ) (pre b first n i : ℕ) (s : Message) where
       ≡ next (readComponent nodeLimit (componentMark items (first + i)) (componentDefault items (first + i))
       (typeOf rows items (componentRow items (first + i))) (bitAt msg pre b) (length msg) s) λ v s.
       next (componentAfter s) λ vs s. got (value v vs) s
-  unfolding componentsAt
+  unfolding members memberAt memberMark memberRow
   components-step h =
       let k : n - i ≡ suc (n - (i + 1)) = omega arith in
       let j : suc (first + i) ≡ first + (i + 1) = omega arith in
       rw (k, j)
-
-  pub components-done : n ≤ i → componentsAt rows items msg pre b (first + i) (n - i) s ≡ got noValues s
-  unfolding componentsAt
-  components-done h = let e : n - i ≡ 0 = omega arith in rw e
-
-pub components-zero : (rows items msg : List ℕ) (pre b first n : ℕ) (s : Message)
-    → componentsAt rows items msg pre b first n s ≡ componentsAt rows items msg pre b (first + 0) (n - 0) s
-components-zero rows items msg pre b first n s = rw (add-zero first, sub-zero n)
 
 -- the mark and the default of a row's component
 pub component-fitting : (rows items : List ℕ) (row i : ℕ) → Component rows items row i

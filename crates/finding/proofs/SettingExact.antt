@@ -1,21 +1,14 @@
 -- A setting's enum tells exactly what was read: the definition's setting can be had back from it, bits of reals included.
 -- Assumes nothing.
 use mathlib.Core.Path.{_≡_, refl, sym}
-use mathlib.Core.Bool.{true}
 use mathlib.Core.List.{List}
-use mathlib.Core.Logic.{⊎-elim}
-use Prim.Native.Nat.{ℕ, zero, suc, _*_, _^_, _%_, _<_, _≤_}
+use Prim.Native.Nat.{ℕ, zero, suc, _^_, _<_}
 use native.Mathlib.Omega.{arith}
-use lib.Dec.{leb, eqb}
-use lib.Ieee.{Format, binary32 as singles, binary64 as doubles, ofBits, toBits, ones, hid, top}
-use lib.Ieee.Bits.{toBits-ofBits, nanBits-is}
-use mir.Syntax.{w64}
-use mir.Val.{toZ, ofZ}
-use mir.ValLaws.{ofZ-toZ}
-use borrow.Author.Tests.{leb-true, eqb-true, eqb-false}
-use Rattle.x696.specs.OutcomeLaws.{cases, or-either}
+use lib.Dec.{eqb}
+use borrow.Author.Tests.{eqb-true, eqb-false}
+use Rattle.x696.specs.OutcomeLaws.{cases}
 use Rattle.x696.specs.Integer.{isUnsigned}
-use Rattle.x696.specs.Real.{binary32, binary64, realOctets, realAllowed}
+use Rattle.x696.specs.Real.{binary32, binary64, realOctets}
 use Rattle.x696.specs.Value.{Val, absent}
 use Rattle.x696.specs.Encode.{bit}
 use Rattle.x696.specs.Leaf.{Leaf, integer, LeafFits, boolean-fits, null-fits, integer-fits, enumerated-fits, real-fits}
@@ -31,7 +24,7 @@ use Rattle.finding.specs.Following.{kindIn}
 use Rattle.finding.specs.Settings.{settingAs, settingBack}
 use Rattle.finding.proofs.Spots.{fits-there}
 use Rattle.finding.proofs.SettingLaws.{absent-setting, there-setting}
-use Rattle.finding.proofs.Floats.{not-nan}
+use Rattle.finding.proofs.Floats.{word-back, single-back, double-back}
 
 truth-back : (n : ℕ) → n < 2 → bit (eqb n 1) ≡ n
 unfolding bit
@@ -39,29 +32,6 @@ truth-back n h =
     cases (eqb n 1)
     (λ e. rw e (sym (eqb-true n 1 e)))
     (λ e. let other = eqb-false n 1 e in rw e (omega arith))
-
-word-back : (n : ℕ) → n < 2 ^ 64 → ofZ w64 (toZ w64 n) ≡ n
-word-back n h = ofZ-toZ w64 n (record { fits = h })
-
--- bits that are no NaN's
-bits-back : (f : Format) (n : ℕ) → n < 2 * top f → n % top f ≤ ones f * hid f → toBits f (ofBits f n) ≡ n
-bits-back f n h g = toBits-ofBits f n h (rw (nanBits-is f n) at (not-nan f n g))
-
-single-back : (n : ℕ) → n < 2 ^ 32 → realAllowed binary32 n ≡ true → toBits singles (ofBits singles n) ≡ n
-unfolding realAllowed toBits ofBits
-single-back n h a =
-    ⊎-elim
-    (λ e. bits-back singles n h (leb-true (n % 2 ^ 31) 0x7F800000 e))
-    (λ e. let one : n ≡ 0x7FC00000 = eqb-true n 0x7FC00000 e in rw one refl)
-    (or-either (leb (n % 2 ^ 31) 0x7F800000) (eqb n 0x7FC00000) a)
-
-double-back : (n : ℕ) → n < 2 ^ 64 → realAllowed binary64 n ≡ true → toBits doubles (ofBits doubles n) ≡ n
-unfolding realAllowed toBits ofBits
-double-back n h a =
-    ⊎-elim
-    (λ e. bits-back doubles n h (leb-true (n % 2 ^ 63) 0x7FF0000000000000 e))
-    (λ e. let one : n ≡ 0x7FF8000000000000 = eqb-true n 0x7FF8000000000000 e in rw one refl)
-    (or-either (leb (n % 2 ^ 63) 0x7FF0000000000000) (eqb n 0x7FF8000000000000) a)
 
 -- ---- kind by kind
 integer-back : (f a n : ℕ) → n < 2 ^ 64

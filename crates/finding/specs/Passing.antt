@@ -3,23 +3,22 @@
 use mathlib.Core.Path.{_≡_}
 use mathlib.Core.Bool.{true, cond}
 use mathlib.Core.List.{List}
-use Prim.Native.Nat.{ℕ, zero, suc, _+_, _<_, _≤_}
+use Prim.Native.Nat.{ℕ, suc, _<_, _≤_}
 use lib.ListN.{length, drop}
 use lib.Dec.{leb}
-use Rattle.x696.specs.Outcome.{Outcome, refused, got, next}
-use Rattle.x696.specs.Value.{Vals, noValues, value}
-use Rattle.x696.specs.Types.{Ty, presenceCount}
-use Rattle.x696.specs.Read.{Message, message, readComponent}
+use Rattle.x696.specs.Outcome.{Outcome, refused, got}
+use Rattle.x696.specs.Value.{Vals}
+use Rattle.x696.specs.Types.{Ty}
+use Rattle.x696.specs.Read.{Message, message}
 use Rattle.x696.specs.Operations.{nodeLimit}
-use Rattle.x696.specs.Table.{componentRow, componentMark, componentDefault, typeOf}
 use Rattle.x696.specs.TableCheck.{defaultSound}
-use Rattle.octets.specs.Presence.{bitAt}
 use Rattle.octets.specs.Answers.{fault}
 use Rattle.octets.specs.declared.answers.Fault.{Fault}
 use Rattle.kinds.specs.Run.{cursor}
 use Rattle.kinds.specs.declared.cursor.Cursor.{Cursor}
 use Rattle.kinds.specs.declared.cursor.Read.{Read}
 use Rattle.kinds.specs.declared.cursor.Read.the-variants.{Got, Refused}
+use Rattle.reading.specs.Members.{members}
 
 -- the outcome o was got as far as c; f gives the number of what was read
 pub record Stood {A : Type 0} (f : A → ℕ) (msg : List ℕ) (o : Outcome Message A) (c : Cursor) : Type 0 where
@@ -44,12 +43,6 @@ Fitting t m d = (m < 3) × (m ≡ 2 → defaultSound t d ≡ true) × ((m ≡ 2 
 unfoldable pub leftOut : (default at count : ℕ) → Read
 leftOut d p c = cond (leb nodeLimit c) (Refused (fault 10 p)) (Got (cursor p (suc c) 0 d))
 
--- n components from item `first` on, each with the presence bit that its mark gives it in the preamble at pre, from
--- bit b on
-module _ (rows items msg : List ℕ) (pre : ℕ) where
-  unfoldable pub componentsAt : (b first n : ℕ) → Message → Outcome Message Vals
-  componentsAt b first zero s = got noValues s
-  componentsAt b first (suc n) s =
-      next (readComponent nodeLimit (componentMark items first) (componentDefault items first)
-      (typeOf rows items (componentRow items first)) (bitAt msg pre b) (length msg) s) λ v s.
-      next (componentsAt (b + presenceCount (componentMark items first)) (suc first) n s) λ vs s. got (value v vs) s
+-- n components from item `first` on, whose presence bits begin with bit b of the preamble at pre
+abbrev pub componentsAt : (rows items msg : List ℕ) → (pre b first n : ℕ) → Message → Outcome Message Vals
+componentsAt rows items msg pre b first n s = members rows items msg 0 true pre n first b s

@@ -16,11 +16,8 @@ use kinds::cursor::got;
 use kinds::cursor::refuse;
 use octets::presence::is_present;
 use reading::parts::check_default;
-use reading::parts::is_marked;
+use reading::value::read_members;
 use reading::value::read_value;
-use table::words::component_default;
-use table::words::component_mark;
-use table::words::component_row;
 
 // A value of a row at octet `at`, with `count` nodes before it.
 pub fn pass_value(
@@ -103,36 +100,28 @@ pub fn pass_components(
     requires { ⌜ SoundTable (now rows) (now items) × (row < length (now rows) / rowWidth) × (at ≤ length (now msg)) × (length (now msg) ≤ 65535) × (first + n ≤ length (now items) / itemWidth) × Each (Component (now rows) (now items) row) first n × (pre ≤ length (now msg)) × (b + n ≤ 1024) ⌝ }
     ensures { λ r. ⌜ Passed none (now (msg .entry)) (componentsAt (now (rows .entry)) (now (items .entry)) (now (msg .entry)) pre b first n (message (drop at (now (msg .entry))) count)) r ⌝ }
 {
-    let mut p = at;
-    let mut c = count;
-    let mut bit = b;
-    let mut i = 0;
-    while i < n {
-        let k = first + i;
-        match pass_component(
-            rows,
-            items,
-            component_row(items, k) as usize,
-            component_mark(items, k),
-            component_default(items, k),
-            msg,
-            pre,
-            bit,
-            p,
-            c,
-        ) {
-            Read::Got(next) => {
-                p = next.at;
-                c = next.count;
-            }
-            Read::Refused(f) => {
-                return Read::Refused(f);
-            }
-        }
-        bit += is_marked(items, k);
-        i += 1;
+    let mut nodes = [0u64; 1];
+    let mut contents = [0u8; 1];
+    match read_members(
+        rows,
+        items,
+        row,
+        0,
+        true,
+        first,
+        n,
+        msg,
+        pre,
+        b,
+        at,
+        count,
+        0,
+        &mut nodes[..0],
+        &mut contents[..0],
+    ) {
+        Read::Refused(f) => Read::Refused(f),
+        Read::Got(d) => got(d.at, d.count, 0, 0),
     }
-    got(p, c, 0, 0)
 }
 
 // n elements of a row.
@@ -148,20 +137,26 @@ pub fn pass_elements(
     requires { ⌜ SoundTable (now rows) (now items) × (row < length (now rows) / rowWidth) × (at ≤ length (now msg)) × (length (now msg) ≤ 65535) ⌝ }
     ensures { λ r. ⌜ Passed none (now (msg .entry)) (times (λ s. read nodeLimit (typeOf (now (rows .entry)) (now (items .entry)) row) (length (now (msg .entry))) s) n (message (drop at (now (msg .entry))) count)) r ⌝ }
 {
-    let mut p = at;
-    let mut c = count;
-    let mut i = 0; // elements read
-    while i < n {
-        match pass_value(rows, items, row, msg, p, c) {
-            Read::Got(next) => {
-                p = next.at;
-                c = next.count;
-            }
-            Read::Refused(f) => {
-                return Read::Refused(f);
-            }
-        }
-        i += 1;
+    let mut nodes = [0u64; 1];
+    let mut contents = [0u8; 1];
+    match read_members(
+        rows,
+        items,
+        row + 1,
+        row,
+        false,
+        0,
+        n as usize,
+        msg,
+        at,
+        0,
+        at,
+        count,
+        0,
+        &mut nodes[..0],
+        &mut contents[..0],
+    ) {
+        Read::Refused(f) => Read::Refused(f),
+        Read::Got(d) => got(d.at, d.count, 0, 0),
     }
-    got(p, c, 0, 0)
 }

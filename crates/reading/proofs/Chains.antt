@@ -9,16 +9,15 @@ use lib.ListN.{length, drop}
 use lib.Seq.{sets}
 use Rattle.x696.specs.Outcome.{Outcome, refused, got, next}
 use Rattle.x696.specs.Value.{Val, node, Vals, noValues, value, only, nodeWidth, size, sizes}
-use Rattle.x696.specs.Value.{nodes, nodesOf, contents, contentsOf}
+use Rattle.x696.specs.Value.{nodes, nodesOf, contents}
 use Rattle.x696.specs.Read.{Message, message}
-use Rattle.octets.specs.Answers.{fault}
 use Rattle.octets.specs.declared.answers.Fault.{Fault}
 use Rattle.kinds.specs.Run.{cursor, numberOf, Gone, Ran}
 use Rattle.kinds.specs.declared.cursor.Cursor.{Cursor}
 use Rattle.kinds.specs.declared.cursor.Read.{Read}
 use Rattle.kinds.specs.declared.cursor.Read.the-variants.{Got, Refused}
 use Rattle.kinds.proofs.Ran.{ran-gone}
-use Rattle.reading.specs.Members.{lastNumber, GoneAll, RanAll}
+use Rattle.reading.specs.Members.{lastNumber, RanAll}
 use Rattle.reading.proofs.Groups.{stored-node, Rest, rest-start, first, rest-turn, rest-stop}
 
 -- what is left, with x the number of the last value read

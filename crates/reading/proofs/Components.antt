@@ -1,7 +1,7 @@
 -- One component of a SEQUENCE, plain, missing (ABSENT or its DEFAULT) or carried: one law for each return of its
 -- reader. Premises are the callees' `ensures`.
 -- Assumes nothing.
-use mathlib.Core.Path.{_≡_, refl, sym, _∙_}
+use mathlib.Core.Path.{_≡_, refl, _∙_}
 use mathlib.Core.Bool.{Bool, true, false, not}
 use mathlib.Core.List.{List, []}
 use Prim.Native.Nat.{ℕ, zero, suc, _+_, _-_, _/_, _%_, _^_, _≤_}
@@ -60,10 +60,6 @@ module _ (rows items msg : List ℕ) (row i pre b at count : ℕ) (inside : at �
 
   abbrev O : Outcome Message Val
   O = read nodeLimit T (length msg) (message (drop at msg) count)
-
-  pub component-plain : mark ≡ 0 → P ≡ O
-  unfolding readComponent componentBy
-  component-plain e = let z : componentMark items i ≡ 0 = sym em ∙ e in rw (z, ← ei)
 
   module _ (marked : mark ≡ 0 → ⊥) (given : ℕ) (ed : given ≡ componentDefault items i)
       (x : Bool) (ex : x ≡ eqb (bitAt msg pre b) 1) where

@@ -8,7 +8,7 @@ use native.Mathlib.Omega.{arith}
 use lib.ListN.{length, drop, length-append}
 use lib.Seq.{sets}
 use Rattle.x696.specs.Outcome.{Outcome, refused, got, next}
-use Rattle.x696.specs.Value.{Val, node, Vals, noValues, value, only, nodeWidth, size, sizes}
+use Rattle.x696.specs.Value.{Val, node, Vals, value, only, nodeWidth, size, sizes}
 use Rattle.x696.specs.Value.{nodes, nodesOf, contents, contentsOf}
 use Rattle.x696.specs.ListLaws.{nodes-length}
 use Rattle.x696.specs.Read.{Message, message}
@@ -18,26 +18,6 @@ use Rattle.kinds.specs.declared.cursor.Cursor.{Cursor}
 use Rattle.kinds.specs.declared.cursor.Read.{Read}
 use Rattle.kinds.specs.declared.cursor.Read.the-variants.{Got}
 use Rattle.kinds.proofs.Ran.{ran-gone}
-
--- an answer from an earlier place
-pub ran-from : {msg : List ℕ} {o : Outcome Message Val} {p q n u : ℕ} {l b l′ b′ : List ℕ} {r : Read} → p ≤ q
-    → Ran msg o q n u l b l′ b′ r → Ran msg o p n u l b l′ b′ r
-ran-from h w = record {
-  went = λ c e.
-      let g = w .went c e in
-      record {
-        what = g .what;
-        reads = g .reads;
-        number = g .number;
-        inside = g .inside;
-        count = g .count;
-        used = g .used;
-        ahead = omega (arith, g .ahead);
-        stored = g .stored;
-        copied = g .copied;
-      };
-  stopped = w .stopped;
-}
 
 -- the store of a node, and what follows it
 pub stored-node : (l ws : List ℕ) {m : List ℕ} (n k x : ℕ) → m ≡ sets l (n * nodeWidth) (k ∷ x ∷ [])
@@ -107,32 +87,6 @@ module _ {o₀ : Outcome Message Vals} {p₀ n₀ u₀ : ℕ} {l₀ b₀ : List 
   pub rest-stop : {x q : ℕ} → o₁ ≡ refused x q → o₀ ≡ refused x q
   unfolding next
   rest-stop {x} {q} f = inv .stops x q (rw (e, f))
-
--- ---- a group: its node, then its values
-module _ {D : Outcome Message Val} {o₀ : Outcome Message Vals} (k x : ℕ)
-    (e : D ≡ next o₀ λ vs s. got (node k x [] vs) s) where
-  pub group-stop : {j q : ℕ} → o₀ ≡ refused j q → D ≡ refused j q
-  unfolding next
-  group-stop f = rw (e, f)
-
-  pub group-done : (msg : List ℕ) {p u : ℕ} (n : ℕ) (l : List ℕ) {b l₁ : List ℕ} {p₀ q m w : ℕ}
-      {o : Outcome Message Vals} {l′ b′ : List ℕ} {r : Read} → l₁ ≡ sets l (n * nodeWidth) (k ∷ x ∷ []) → p ≤ p₀
-      → Rest o₀ p₀ (n + 1) u l₁ b o q m w l′ b′ → o ≡ got noValues (message (drop q msg) m) → q ≤ length msg
-      → r ≡ Got (cursor q m w x) → Ran msg D p n u l b l′ b′ r
-  unfolding next sizes contents nodes size numberOf
-  group-done msg n l {q = q} {m} s h inv f g =
-      let z = inv .ends noValues (message (drop q msg) m) f in
-      ran-gone (record {
-        what = node k x [] (z .what);
-        reads = rw (e, z .reads);
-        number = refl;
-        inside = g;
-        count = omega (arith, z .count);
-        used = omega (arith, z .used);
-        ahead = omega (arith, z .ahead);
-        stored = sym (z .stored) ∙ stored-node l (nodesOf (z .what)) n k x s;
-        copied = sym (z .copied);
-      })
 
 -- ---- a value alone in a value
 module _ {D o : Outcome Message Val} (k x : ℕ) (e : D ≡ next o λ v s. got (node k x [] (only v)) s) where

@@ -1,8 +1,8 @@
 -- The members of a group: one and those after it; which members a SEQUENCE, a SEQUENCE OF, a CHOICE and a value alone
 -- have; what a sound table gives of them.
 -- Premises are the callees' `ensures`. Assumes nothing.
-use mathlib.Core.Path.{_≡_, refl, sym, ap, _∙_}
-use mathlib.Core.Bool.{Bool, true, false, cond, false≢true}
+use mathlib.Core.Path.{_≡_, refl, sym, _∙_}
+use mathlib.Core.Bool.{Bool, true, false, false≢true}
 use mathlib.Core.List.{List, []}
 use Prim.Native.Nat.{ℕ, zero, suc, _+_, _-_, _/_, _<_, _≤_}
 use native.Mathlib.Omega.{arith}
@@ -15,7 +15,7 @@ use Rattle.x696.specs.OutcomeLaws.{cases}
 use Rattle.x696.specs.Digits.{Below}
 use Rattle.x696.specs.Bits.{bitOctets, readPreamble}
 use Rattle.x696.specs.Variable.{readUnsigned}
-use Rattle.x696.specs.Value.{Val, node, Vals, noValues, value, only}
+use Rattle.x696.specs.Value.{Val, node, noValues, only}
 use Rattle.x696.specs.Types.{Ty, presenceCount, markCount}
 use Rattle.x696.specs.Read.{Message, message, times, componentBy, readComponents, read, readComponent}
 use Rattle.x696.specs.Operations.{nodeLimit}
@@ -29,7 +29,6 @@ use Rattle.octets.specs.declared.answers.ReadQuantity.{ReadQuantity}
 use Rattle.octets.specs.declared.answers.ReadQuantity.the-variants.{Got as GotQuantity}
 use Rattle.octets.proofs.Answered.{next-got}
 use Rattle.kinds.specs.Run.{insideAt}
-use Rattle.octets.specs.Presence.{bitAt}
 use Rattle.octets.proofs.PresenceBits.{bits-read}
 use Rattle.reading.specs.Members.{memberRow, memberMark, memberAt, members, Member, Members}
 use Rattle.reading.proofs.Groups.{first}
@@ -135,7 +134,7 @@ module _ (rows items msg : List ℕ) (row at count : ℕ) (inside : at ≤ lengt
       let same = components-members rows items msg inner at k below bits-got n g 0
       (message (drop (at + bitOctets k) msg) (count + 1)) (omega arith) in
       node-first rows items msg row at count inside sound is g n k eg en ek bits-got
-      ∙ rw (add-zero g, sub-zero n, same) refl
+      ∙ rw same refl
 
   pub quantity-members : (is : rowKind rows row ≡ 11) {x : ReadQuantity}
       → QuantityAnswer msg (readUnsigned at (drop at msg)) at x
@@ -149,16 +148,18 @@ module _ (rows items msg : List ℕ) (row at count : ℕ) (inside : at ≤ lengt
       ∙ rw (← eg, ← ei, ← add-one count, times-members rows items msg inner pre (y .many .0) 0 0 s) refl
 
 -- ---- what a sound table gives of the members
-pub members-alone : {rows items : List ℕ} {above inner n : ℕ} → inner < above → Members rows items above inner false 0 n
-members-alone h = record { alone = λ e. (refl, h); among = λ e. absurd (false≢true e) }
+pub members-alone : {rows items : List ℕ} {above inner n : ℕ} → inner < above
+    → Members rows items above inner false 0 0 n
+members-alone h = record { alone = λ e. (refl, refl, h); among = λ e. absurd (false≢true e) }
 
-pub members-among : {rows items : List ℕ} {above inner first n : ℕ} → first + n ≤ length items / itemWidth
-    → ((i : ℕ) → i < n → Component rows items above (first + i)) → Members rows items above inner true first n
-members-among h f = record { alone = λ e. absurd (false≢true (sym e)); among = λ e. (h, f) }
+pub members-among : {rows items : List ℕ} {above inner first bit n : ℕ} → first + n ≤ length items / itemWidth
+    → bit + n ≤ 1024 → ((i : ℕ) → i < n → Component rows items above (first + i))
+    → Members rows items above inner true first bit n
+members-among h b f = record { alone = λ e. absurd (false≢true (sym e)); among = λ e. (h, b, f) }
 
 -- and of one
-module _ {rows items : List ℕ} {above inner : ℕ} {listed : Bool} {first n : ℕ}
-    (known : Members rows items above inner listed first n) (i : ℕ) (h : i < n) where
+module _ {rows items : List ℕ} {above inner : ℕ} {listed : Bool} {first bit n : ℕ}
+    (known : Members rows items above inner listed first bit n) (i : ℕ) (h : i < n) where
   pub member-inside : listed ≡ true → first + i < length items / itemWidth
   member-inside e = omega (arith, known .among e .0)
 
@@ -168,16 +169,23 @@ module _ {rows items : List ℕ} {above inner : ℕ} {listed : Bool} {first n : 
       (λ e. omega (arith, member-inside e))
       (λ e. omega (arith, known .alone e .0))
 
-  pub member-known : (few : length items / itemWidth ≤ 1024) (b : ℕ) → b ≤ i → (m r : ℕ)
+  pub bit-fits : (k : ℕ) → n ≤ k → 1024 ≤ k → bit + i < k
+  bit-fits k g d =
+      cases listed
+      (λ e. omega (arith, known .among e .1))
+      (λ e. omega (arith, known .alone e .1))
+
+  pub member-known : (b : ℕ) → b ≤ bit + i → (m r : ℕ)
       → m ≡ memberMark items listed (first + i) → r ≡ memberRow items inner listed (first + i)
       → Member rows items above r m (first + i) b
   unfolding memberMark memberRow
-  member-known few b g m r em er =
+  member-known b g m r em er =
       cases listed
       (λ e.
-      let one = known .among e .1 i h in
+      let one = known .among e .2 i h in
       record {
         lower = rw (er, e) (one .lower);
-        marked = λ z. (member-inside e, one, rw (er, e) refl, rw (em, e) refl, omega (arith, member-inside e));
+        marked = λ z.
+            (member-inside e, one, rw (er, e) refl, rw (em, e) refl, omega (arith, known .among e .1));
       })
-      (λ e. record { lower = rw (er, e) (known .alone e .1); marked = λ z. absurd (z (rw (em, e) refl)) })
+      (λ e. record { lower = rw (er, e) (known .alone e .2); marked = λ z. absurd (z (rw (em, e) refl)) })

@@ -3,7 +3,7 @@
 use mathlib.Core.Path.{_≡_, refl, sym, _∙_}
 use mathlib.Core.Bool.{Bool, true, false, cond, not, _&&_}
 use mathlib.Core.List.{List, []}
-use Prim.Native.Nat.{ℕ, _/_, _<_, _≤_}
+use Prim.Native.Nat.{ℕ, _≤_}
 use native.Mathlib.Omega.{arith}
 use lib.ListN.{length, drop}
 use lib.Dec.{eqb}
@@ -14,7 +14,7 @@ use Rattle.x696.specs.Digits.{Below}
 use Rattle.x696.specs.Value.{Val, node, noValues}
 use Rattle.x696.specs.Read.{Message, message, counted, componentBy, read, readComponent}
 use Rattle.x696.specs.Operations.{nodeLimit}
-use Rattle.x696.specs.Table.{rowKind, itemWidth, componentRow, componentMark, componentDefault, typeOf}
+use Rattle.x696.specs.Table.{rowKind, componentRow, componentMark, componentDefault, typeOf}
 use Rattle.octets.specs.Answers.{fault}
 use Rattle.octets.specs.Presence.{bitAt}
 use Rattle.kinds.specs.Run.{cursor, Gone, Ran}

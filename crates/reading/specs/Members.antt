@@ -41,11 +41,12 @@ module _ (rows items msg : List ℕ) (inner : ℕ) (listed : Bool) (pre : ℕ) w
       next (memberAt rows items msg (memberMark items listed j) j (memberRow items inner listed j) pre b s) λ v s.
       next (members n (suc j) (b + presenceCount (memberMark items listed j)) s) λ vs s. got (value v vs) s
 
--- what a sound table gives of the members: rows below `above`
-pub record Members (rows items : List ℕ) (above inner : ℕ) (listed : Bool) (first n : ℕ) : Type 0 where
-  pub alone : listed ≡ false → (first ≡ 0) × (inner < above)
+-- what a sound table gives of the members: rows below `above`, presence bits from `bit` on
+pub record Members (rows items : List ℕ) (above inner : ℕ) (listed : Bool) (first bit n : ℕ) : Type 0 where
+  pub alone : listed ≡ false → (first ≡ 0) × (bit ≡ 0) × (inner < above)
   pub among : listed ≡ true
-      → (first + n ≤ length items / itemWidth) × ((i : ℕ) → i < n → Component rows items above (first + i))
+      → (first + n ≤ length items / itemWidth) × (bit + n ≤ 1024)
+      × ((i : ℕ) → i < n → Component rows items above (first + i))
 
 -- and of one: a mark is that of its item
 pub record Member (rows items : List ℕ) (above row mark i b : ℕ) : Type 0 where
@@ -60,7 +61,8 @@ lastNumber x noValues = x
 lastNumber x (value v vs) = lastNumber (numberOf v) vs
 
 -- the values o were got as far as c: as `Gone` of one value (crates/kinds/specs/Run.antt)
-pub record GoneAll (msg : List ℕ) (o : Outcome Message Vals) (p n u : ℕ) (l b l′ b′ : List ℕ) (c : Cursor) : Type 0 where
+pub record GoneAll (msg : List ℕ) (o : Outcome Message Vals) (p n u : ℕ) (l b l′ b′ : List ℕ) (c : Cursor)
+    : Type 0 where
   pub what : Vals
   pub reads : o ≡ got what (message (drop (c .at) msg) (c .count))
   pub number : c .number ≡ lastNumber 0 what

@@ -28,7 +28,8 @@ pub record Refuses {A : Type 0} (a : Answer A) (x : Reply) : Type 0 where
 -- a usable table and a row of it, or 1, 2, 3
 pub record AskedAnswer (rows items : List ℕ) (row : ℕ) (r : Asked) : Type 0 where
   pub ready : r ≡ Ready
-      → (tableFault rows items ≡ sound) × (row < length rows / rowWidth) × (asked rows items row ≡ done (typeOf rows items row))
+      → (tableFault rows items ≡ sound) × (row < length rows / rowWidth)
+      × (asked rows items row ≡ done (typeOf rows items row))
   pub stopped : (x : Reply) → r ≡ NotAsked x → Refuses (asked rows items row) x
 
 -- a value handed out, by its sizes

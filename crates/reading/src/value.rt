@@ -64,6 +64,7 @@ pub fn read_value(
         1,
         msg,
         at,
+        0,
         at,
         count,
         used,
@@ -72,9 +73,10 @@ pub fn read_value(
     )
 }
 
-// n members of a group: listed, from item `first` on, with the preamble at `pre`, or n times a value of the row `inner`.
-// Each is of a row below `above`. A quantity is believed only as far as its members are read.
-fn read_members(
+// n members of a group: listed, from item `first` on, whose presence bits begin with bit `bit` of the preamble at `pre`, or
+// n times a value of the row `inner`. Each is of a row below `above`. A quantity is believed only as far as its members
+// are read.
+pub fn read_members(
     rows: &[u64],
     items: &[u64],
     above: usize,
@@ -84,20 +86,21 @@ fn read_members(
     n: usize,
     msg: &[u8],
     pre: usize,
+    bit: usize,
     at: usize,
     count: usize,
     used: usize,
     nodes: &mut [u64],
     contents: &mut [u8],
 ) -> Read
-    requires { ⌜ SoundTable (now rows) (now items) × (above ≤ length (now rows) / rowWidth) × Members (now rows) (now items) above inner listed first n × (pre ≤ length (now msg)) × (at ≤ length (now msg)) × (used ≤ at) × (length (now msg) ≤ 65535) ⌝ }
-    ensures { λ r. ⌜ RanAll (now (msg .entry)) (members (now (rows .entry)) (now (items .entry)) (now (msg .entry)) inner listed pre n first 0 (message (drop at (now (msg .entry))) count)) at count used (now (nodes .entry)) (now (contents .entry)) (now (nodes .exit)) (now (contents .exit)) r ⌝ }
+    requires { ⌜ SoundTable (now rows) (now items) × (above ≤ length (now rows) / rowWidth) × Members (now rows) (now items) above inner listed first bit n × (pre ≤ length (now msg)) × (at ≤ length (now msg)) × (used ≤ at) × (length (now msg) ≤ 65535) ⌝ }
+    ensures { λ r. ⌜ RanAll (now (msg .entry)) (members (now (rows .entry)) (now (items .entry)) (now (msg .entry)) inner listed pre n first bit (message (drop at (now (msg .entry))) count)) at count used (now (nodes .entry)) (now (contents .entry)) (now (nodes .exit)) (now (contents .exit)) r ⌝ }
 {
     let mut p = at;
     let mut c = count;
     let mut u = used;
     let mut x = 0;
-    let mut b = 0;
+    let mut b = bit;
     let mut i = 0; // members read
     while i < n {
         let mark = member_mark(items, listed, first + i);
@@ -255,6 +258,7 @@ fn read_sequence(
         n,
         msg,
         at,
+        0,
         at + (bits + 7) / 8,
         count + 1,
         used,
@@ -298,6 +302,7 @@ fn read_sequence_of(
                 n as usize,
                 msg,
                 at,
+                0,
                 q.next,
                 count + 1,
                 used,
@@ -347,6 +352,7 @@ fn read_choice(
                 1,
                 msg,
                 at,
+                0,
                 g.next,
                 count + 1,
                 used,

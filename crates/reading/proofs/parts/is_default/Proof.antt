@@ -1,5 +1,4 @@
 -- Another mark than DEFAULT, or the number. Assumes nothing.
-use borrow.Author.Needs.{needs}
 use Rattle.reading.proofs.OneMember.{default-other, default-two}
 use Rattle.reading.proofs.parts.is_default.Statement.{statement}
 use Rattle.reading.proofs.parts.is_default.Tie as tie

@@ -1,5 +1,4 @@
 -- No mark, or the presence bit. Assumes nothing.
-use borrow.Author.Needs.{needs}
 use Rattle.reading.proofs.OneMember.{bit-plain, bit-marked}
 use Rattle.reading.proofs.parts.is_missing.Statement.{statement}
 use Rattle.reading.proofs.parts.is_missing.Tie as tie

@@ -19,15 +19,15 @@ use Rattle.reading.proofs.value.+read_choice+read_member+read_members+r
 }
 
 abbrev pub Inv-loop : lts.InvT-loop
-Inv-loop rows items above inner listed first n msg pre at count used nodes₀ contents₀ p₀ c₀ u₀ x₀ b₀ i₀
+Inv-loop rows items above inner listed first n msg pre bit at count used nodes₀ contents₀ p₀ c₀ u₀ x₀ b₀ i₀
     nodes contents p c u x b i =
     (i ≤ n) × (length nodes ≡ length nodes₀) × (length contents ≡ length contents₀)
-    × ((p ≤ length msg) × (u ≤ p) × (b ≤ i)
-    × Chain (members rows items msg inner listed pre n first 0 (message (drop p₀ msg) c₀)) p₀ c₀ u₀ nodes₀ contents₀
+    × ((p ≤ length msg) × (u ≤ p) × (b ≤ bit + i)
+    × Chain (members rows items msg inner listed pre n first bit (message (drop p₀ msg) c₀)) p₀ c₀ u₀ nodes₀ contents₀
     (members rows items msg inner listed pre (n - i) (first + i) b (message (drop p msg) c)) p c u x nodes contents)
 
 abbrev pub μ-loop : lts.MeasureT-loop
-μ-loop rows items above inner listed first n msg pre at count used nodes₀ contents₀ p₀ c₀ u₀ x₀ b₀ i₀
+μ-loop rows items above inner listed first n msg pre bit at count used nodes₀ contents₀ p₀ c₀ u₀ x₀ b₀ i₀
     nodes contents p c u x b i = n - i
 
 pub loop-holds : (t : ℕ) → lts.Need-loop-holds (calls t) (here t) Post Inv-loop μ-loop
@@ -87,7 +87,7 @@ read-member-requires t c κs =
     let c4 = c3 .before in
     let c5 = c4 .before in
     let start = c5 .before .before .before .before .before .before in
-    let known = Laws.member-known (start .pre .1 .2) (c5 .loop .i) (c4 .loop-test .taken) (start .pre .1 .0 .fewItems) _
+    let known = Laws.member-known (start .pre .1 .2) (c5 .loop .i) (c4 .loop-test .taken) _
     (c5 .loop .inv .3 .2) _ _ (c3 .member-mark .ensures) (c2 .member-row .ensures) in (
       omega arith,
       (
@@ -132,7 +132,14 @@ add-b t c =
     let c13 = c .before .before .before .before .before .before .before .before .before .before .before .before
     .before in
     let c14 = c13 .before in
-    omega (arith, c14 .loop .inv .3 .2, c .bit-of .ensures .1, c13 .loop-test .taken)
+    let start = c14 .before .before .before .before .before .before in
+    omega (
+      arith,
+      c14 .loop .inv .3 .2,
+      c .bit-of .ensures .1,
+      Laws.bit-fits (start .pre .1 .2) (c14 .loop .i) (c13 .loop-test .taken) 18446744073709551615 (omega arith)
+          (omega arith),
+    )
 
 pub add-i : (t : ℕ) → lts.Need-add-i (calls t) (here t) Post Inv-loop μ-loop
 add-i t c =

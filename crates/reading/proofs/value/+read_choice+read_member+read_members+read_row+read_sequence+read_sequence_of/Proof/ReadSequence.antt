@@ -144,6 +144,7 @@ read-members-requires t c κs =
         start .pre .1 .0,
         omega (arith, start .pre .1 .1),
         Laws.members-among (omega (arith, row .range, c11 .row-first .ensures, c10 .row-count .ensures))
+            (omega (arith, row .range, start .pre .1 .0 .fewItems, c10 .row-count .ensures))
             (λ i h. rw (c11 .row-first .ensures) (row .component i (rw (← c10 .row-count .ensures) h))),
         start .pre .1 .2,
         omega (arith, start .pre .1 .2, c4 .if1 .left),
