@@ -25,7 +25,7 @@ use Rattle.pens.specs.declared.pen.Pen.{Pen}
 use Rattle.pens.specs.declared.pen.Wrote.{Wrote}
 use Rattle.pens.specs.declared.pen.Wrote.the-variants.{Got}
 use Rattle.writing.specs.Noted.{missingAt, withPresence, marked, noted, Notes}
-use Rattle.writing.specs.Members.{Member}
+use Rattle.reading.specs.Members.{Member}
 use Rattle.pens.proofs.Putting.{put-penned}
 use Rattle.writing.proofs.NodeTests.{kind-is}
 use Rattle.writing.proofs.Missing.{missing-got, carried-walk, carried-differs, missing-octets, missing-bits}

@@ -2,9 +2,9 @@
 -- one copy.
 -- Assumes nothing.
 use mathlib.Core.Path.{_≡_, refl, sym, ap, _∙_}
-use mathlib.Core.Bool.{false, false≢true}
+use mathlib.Core.Bool.{false}
 use mathlib.Core.List.{List, [], _++_, append-nil}
-use Prim.Native.Nat.{ℕ, zero, suc, _+_, _<_}
+use Prim.Native.Nat.{ℕ, zero, suc, _+_}
 use native.Mathlib.Omega.{arith}
 use lib.ListN.{replicate}
 use lib.Seq.{sets}
@@ -21,7 +21,7 @@ use Rattle.x696.specs.WalkSound.{got-same}
 use Rattle.x696.specs.Table.{typeOf}
 use Rattle.pens.specs.Put.{listedAt, Put}
 use Rattle.pens.specs.declared.pen.Wrote.{Wrote}
-use Rattle.writing.specs.Members.{copies, members, Members, groupOctets, PutAll}
+use Rattle.writing.specs.Members.{copies, members, groupOctets, PutAll}
 
 next-same : {S A B : Type 0} (o : Outcome S A) (k j : A → S → Outcome S B) → ((a : A) (s : S) → k a s ≡ j a s)
     → next o k ≡ next o j
@@ -118,6 +118,3 @@ module _ (rows items : List ℕ) (inner n p : ℕ) where
   pub no-zeros : (l : List ℕ) → l ≡ sets l p (replicate (bitOctets (markCount (members rows items inner false 0 n)))
       0)
   no-zeros l = rw no-marks refl
-
-  pub alone-members : {above : ℕ} → inner < above → Members rows items above inner false 0 n
-  alone-members h = record { alone = λ _. (refl, h); among = λ e. absurd (false≢true e) }

@@ -4,7 +4,7 @@ use mathlib.Core.Path.{_≡_, refl}
 use mathlib.Core.Bool.{Bool, true, false, cond, not}
 use mathlib.Core.List.{List, [], _++_}
 use mathlib.Core.Logic.{inl, inr}
-use Prim.Native.Nat.{ℕ, zero, suc, _+_, _-_, _*_, _/_, _^_, _<_, _≤_}
+use Prim.Native.Nat.{ℕ, zero, suc, _+_, _-_, _*_, _<_, _≤_}
 use native.Mathlib.Omega.{arith}
 use native.Mathlib.Nat.{add-zero, sub-zero}
 use lib.ListN.{length, replicate}
@@ -15,13 +15,14 @@ use Rattle.x696.specs.Value.{Val, Vals, noValues, value, nodeWidth, same}
 use Rattle.x696.specs.Types.{Ty, Items, noItems, item, presenceCount, markCount, missing}
 use Rattle.x696.specs.Encode.{bit, presenceBits, presence, carriedOctets, encode, encodeComponents, ownOctets}
 use Rattle.x696.specs.Walk.{Listed, walk, walkComponents, walkComponent}
-use Rattle.x696.specs.Table.{itemWidth, componentRow, componentMark, componentDefault, itemsFrom, typeOf}
+use Rattle.x696.specs.Table.{componentDefault, itemsFrom, typeOf}
 use Rattle.octets.specs.declared.answers.Fault.{Fault}
 use Rattle.pens.specs.Put.{pen, listedAt, nodeOctets}
 use Rattle.pens.specs.declared.pen.Pen.{Pen}
 use Rattle.pens.specs.declared.pen.Wrote.{Wrote}
 use Rattle.pens.specs.declared.pen.Wrote.the-variants.{Got, Refused}
-use Rattle.writing.specs.Members.{memberRow, memberMark, copies, members, Members, Member, PutAll}
+use Rattle.reading.specs.Members.{memberRow, memberMark}
+use Rattle.writing.specs.Members.{copies, members, PutAll}
 use Rattle.writing.specs.Noted.{Noted}
 use Rattle.writing.proofs.Groups.{Rest, Bit, first, rest-start, rest-turn, rest-stop, rest-done}
 
@@ -45,34 +46,6 @@ octets-none : (is : Items) → encodeComponents is noValues ≡ []
 unfolding encodeComponents
 octets-none noItems = refl
 octets-none (item m d t is) = refl
-
-pub no-bit : (m : ℕ) → m ≡ 0 → 0 ≡ presenceCount m
-unfolding presenceCount
-no-bit m e = rw e
-
-pub one-bit : (m : ℕ) → (m ≡ 0 → ⊥) → 1 ≡ presenceCount m
-unfolding presenceCount
-one-bit zero h = absurd (h refl)
-one-bit (suc m) h = refl
-
--- ---- a member's row and mark
-module _ (items : List ℕ) (listed : Bool) (j : ℕ) where
-  pub mark-listed : {m : ℕ} → listed ≡ true → m ≡ componentMark items j → m ≡ memberMark items listed j
-  unfolding memberMark
-  mark-listed e f = rw e f
-
-  pub mark-alone : listed ≡ false → 0 ≡ memberMark items listed j
-  unfolding memberMark
-  mark-alone e = rw e
-
-module _ (items : List ℕ) (inner : ℕ) (listed : Bool) (j : ℕ) where
-  pub row-listed : {r : ℕ} → listed ≡ true → r ≡ componentRow items j → r ≡ memberRow items inner listed j
-  unfolding memberRow
-  row-listed e f = rw e f
-
-  pub row-alone : listed ≡ false → inner ≡ memberRow items inner listed j
-  unfolding memberRow
-  row-alone e = rw e
 
 -- ---- n members from g on, i of them written
 unfoldable memberDefault : (items : List ℕ) → (listed : Bool) → (j : ℕ) → ℕ
@@ -274,30 +247,3 @@ module _ (rows items ws cs : List ℕ) (inner : ℕ) (listed : Bool) (pre g n a�
               });
           stopped = λ x q. let y : _≡_ {A = ℕ} 0 1 = cc in absurd (omega arith);
         }
-
--- ---- what is known of one member
-module _ (rows items : List ℕ) (above inner : ℕ) (g n i : ℕ) (h : i < n) where
-  pub index-inside : (listed : Bool) → Members rows items above inner listed g n → listed ≡ true → g + i < length
-      items / itemWidth
-  index-inside listed known e = omega (arith, known .among e .0)
-
-  pub index-fits : (listed : Bool) → Members rows items above inner listed g n → n < 2 ^ 64 → length items /
-      itemWidth ≤ 1024
-      → g + i < 2 ^ 64
-  index-fits true known big few = omega (arith, known .among refl .0)
-  index-fits false known big few = omega (arith, known .alone refl .0)
-
-  pub member-known : (listed : Bool) (b : ℕ) {row m : ℕ} → Members rows items above inner listed g n
-      → length items / itemWidth ≤ 1024 → b ≤ i → row ≡ memberRow items inner listed (g + i)
-      → m ≡ memberMark items listed (g + i) → Member rows items above row m (g + i) b
-  unfolding memberRow memberMark
-  member-known true b known few hb er em =
-      let (range, one) = known .among refl in
-      record {
-        lower = rw er (one i h .lower);
-        marked = λ _. (omega (arith, range), one i h, er, em, omega (arith, range));
-      }
-  member-known false b known few hb er em = record {
-    lower = rw er (known .alone refl .1);
-    marked = λ some. absurd (some em);
-  }

@@ -1,7 +1,7 @@
 -- A SEQUENCE behind its node: its preamble, then its components; one law for each way that its writer returns.
 -- Premises are the callees' `ensures`. Assumes nothing.
 use mathlib.Core.Path.{_≡_, refl, sym, ap, _∙_}
-use mathlib.Core.Bool.{true, false≢true}
+use mathlib.Core.Bool.{true}
 use mathlib.Core.List.{List, [], _++_}
 use Prim.Native.Nat.{ℕ, zero, suc, _+_, _/_, _≤_}
 use native.Mathlib.Omega.{arith}
@@ -16,14 +16,16 @@ use Rattle.x696.specs.Value.{Val, node, Vals}
 use Rattle.x696.specs.Types.{Ty, sequence, Items, itemCount, markCount}
 use Rattle.x696.specs.Encode.{presence, encode, encodeComponents}
 use Rattle.x696.specs.Walk.{Listed, walkComponents}
-use Rattle.x696.specs.Table.{rowKind, rowFirst, rowCount, itemsFrom, componentsFrom, typeOf}
+use Rattle.x696.specs.Table.{rowKind, rowFirst, rowCount, itemWidth, itemsFrom, componentsFrom, typeOf}
 use Rattle.x696.specs.TableFault.{rowSound}
 use Rattle.x696.specs.TableRows.{SequenceRow}
 use Rattle.x696.specs.TableKinds.{sequence-type}
 use Rattle.octets.proofs.Answered.{next-refused, next-got}
 use Rattle.pens.specs.Put.{listedAt, walkBehind, Put}
 use Rattle.pens.specs.declared.pen.Wrote.{Wrote}
-use Rattle.writing.specs.Members.{members, Members, groupOctets, PutAll}
+use Rattle.reading.specs.Members.{Members}
+use Rattle.reading.proofs.Members.{members-among}
+use Rattle.writing.specs.Members.{members, groupOctets, PutAll}
 use Rattle.writing.proofs.InPlace.{sets-over, sets-anew}
 
 components-count : (f : ℕ → Ty) (items : List ℕ) (g n : ℕ) → itemCount (componentsFrom f items g n) ≡ n
@@ -50,13 +52,12 @@ module _ (rows items : List ℕ) (g n k pre : ℕ) (ek : (f : ℕ → Ty) → k 
       rw (← marks-are) (s ∙ sym (rw s (sets-over zeros zeros l pre (omega arith))))
 
 -- its components are known
-pub listed-members : (rows items : List ℕ) (row g n : ℕ) → SequenceRow rows items row → g ≡ rowFirst rows row
-    → n ≡ rowCount rows row
-    → Members rows items row 0 true g n
-listed-members rows items row g n known eg en = record {
-  alone = λ e. absurd (false≢true (sym e));
-  among = λ _. (rw (eg, en) (known .range), λ i h. rw eg (known .component i (rw (← en) h)));
-}
+pub listed-members : (rows items : List ℕ) (row g n : ℕ) → SequenceRow rows items row
+    → length items / itemWidth ≤ 1024 → g ≡ rowFirst rows row → n ≡ rowCount rows row
+    → Members rows items row 0 true g 0 n
+listed-members rows items row g n known few eg en =
+    members-among (rw (eg, en) (known .range)) (omega (arith, known .range))
+    (λ i h. rw eg (known .component i (rw (← en) h)))
 
 -- ---- a row of kind 10, behind its node
 module _ (rows items ws cs : List ℕ) (row at u number : ℕ) (sound : rowSound rows items row ≡ true)

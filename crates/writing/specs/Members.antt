@@ -1,9 +1,9 @@
 -- The members of a group as one list of items: the components of a SEQUENCE, or one type over and over (SEQUENCE OF,
 -- a CHOICE's alternative, a value alone), which is a component without a mark. Assumes nothing.
 use mathlib.Core.Path.{_≡_}
-use mathlib.Core.Bool.{Bool, true, false, cond}
+use mathlib.Core.Bool.{Bool, true, false}
 use mathlib.Core.List.{List, _++_}
-use Prim.Native.Nat.{ℕ, zero, suc, _+_, _*_, _/_, _<_, _≤_}
+use Prim.Native.Nat.{ℕ, zero, suc, _+_, _*_, _≤_}
 use lib.ListN.{length}
 use lib.Seq.{sets}
 use Rattle.x696.specs.Outcome.{refused, got}
@@ -12,20 +12,12 @@ use Rattle.x696.specs.Value.{Vals, nodeWidth}
 use Rattle.x696.specs.Types.{Ty, Items, noItems, item, markCount}
 use Rattle.x696.specs.Encode.{presence, encodeComponents}
 use Rattle.x696.specs.Walk.{Listed, walkComponents}
-use Rattle.x696.specs.Table.{itemWidth, componentRow, componentMark, componentsFrom, typeOf}
-use Rattle.x696.specs.TableRows.{Component}
+use Rattle.x696.specs.Table.{componentsFrom, typeOf}
 use Rattle.octets.specs.declared.answers.Fault.{Fault}
 use Rattle.pens.specs.Put.{listedAt, nodeOctets}
 use Rattle.pens.specs.declared.pen.Pen.{Pen}
 use Rattle.pens.specs.declared.pen.Wrote.{Wrote}
 use Rattle.pens.specs.declared.pen.Wrote.the-variants.{Got, Refused}
-
--- the row and the mark of the member at item j: the item's where members are listed
-unfoldable pub memberRow : (items : List ℕ) → (inner : ℕ) → (listed : Bool) → (j : ℕ) → ℕ
-memberRow items inner listed j = cond listed (componentRow items j) inner
-
-unfoldable pub memberMark : (items : List ℕ) → (listed : Bool) → (j : ℕ) → ℕ
-memberMark items listed j = cond listed (componentMark items j) 0
 
 -- n times a type
 unfoldable pub copies : ℕ → Ty → Items
@@ -36,19 +28,6 @@ copies (suc n) t = item 0 0 t (copies n t)
 unfoldable pub members : (rows items : List ℕ) → (inner : ℕ) → (listed : Bool) → (j n : ℕ) → Items
 members rows items inner true j n = componentsFrom (λ k. typeOf rows items k) items j n
 members rows items inner false j n = copies n (typeOf rows items inner)
-
--- what a sound table gives of the members: rows below `above`
-pub record Members (rows items : List ℕ) (above inner : ℕ) (listed : Bool) (first n : ℕ) : Type 0 where
-  pub alone : listed ≡ false → (first ≡ 0) × (inner < above)
-  pub among : listed ≡ true
-      → (first + n ≤ length items / itemWidth) × ((i : ℕ) → i < n → Component rows items above (first + i))
-
--- and of one: a mark is that of its item
-pub record Member (rows items : List ℕ) (above row mark i b : ℕ) : Type 0 where
-  pub lower : row < above
-  pub marked : (mark ≡ 0 → ⊥)
-      → (i < length items / itemWidth) × Component rows items above i × (row ≡ componentRow items i)
-      × (mark ≡ componentMark items i) × (b < 1024)
 
 -- the preamble and the octets of values of these items (16.1)
 abbrev pub groupOctets : Items → Vals → List ℕ

@@ -1,47 +1,17 @@
-// Parts of the writers of groups: a member's row and mark, a component that is not carried, a presence bit set.
+// Parts of the writers of groups: a component that is not carried, a presence bit set.
 ghost use mathlib.Core.Path.{_≡_};
 ghost use mathlib.Core.Bool.{true, not, _&&_};
 ghost use Prim.Native.Nat.{_+_, _*_, _/_, _^_, _<_, _≤_};
 ghost use lib.ListN.{length, getD};
 ghost use lib.Dec.{eqb};
 ghost use Rattle.x696.specs.Value.{nodeWidth};
-ghost use Rattle.x696.specs.Types.{presenceCount};
 ghost use Rattle.x696.specs.Table.{rowWidth, rowKind, itemWidth, componentDefault};
-ghost use Rattle.writing.specs.Members.{memberRow, memberMark};
 ghost use Rattle.writing.specs.Noted.{missingAt, marked};
 use octets::nodes::node_kind;
 use octets::nodes::node_number;
 use octets::presence::put_presence;
 use table::words::component_default;
-use table::words::component_mark;
-use table::words::component_row;
 use table::words::row_kind;
-
-// The row of a group's member: that of item i where members are listed.
-pub fn member_row(items: &[u64], inner: usize, listed: bool, i: usize) -> usize
-    requires { ⌜ (listed ≡ true → i < length (now items) / itemWidth) ⌝ }
-    ensures { λ r. ⌜ r ≡ memberRow (now (items .entry)) inner listed i ⌝ }
-{
-    if listed {
-        component_row(items, i) as usize
-    } else {
-        inner
-    }
-}
-
-pub fn member_mark(items: &[u64], listed: bool, i: usize) -> u64
-    requires { ⌜ (listed ≡ true → i < length (now items) / itemWidth) ⌝ }
-    ensures { λ r. ⌜ r ≡ memberMark (now (items .entry)) listed i ⌝ }
-{
-    if listed { component_mark(items, i) } else { 0 }
-}
-
-// 1 where a component with this mark has a presence bit (16.2.3).
-pub fn bit_of(mark: u64) -> usize
-    ensures { λ r. ⌜ (r ≡ presenceCount mark) × (r ≤ 1) ⌝ }
-{
-    if mark == 0 { 0 } else { 1 }
-}
 
 // Whether node `at`, which is there, has this kind and number.
 fn is_node(nodes: &[u64], at: usize, kind: u64, number: u64) -> bool

@@ -16,13 +16,11 @@ ghost use Rattle.x696.specs.Table.{rowWidth, rowKind, componentDefault, typeOf}
 ghost use Rattle.x696.specs.TableCheck.{defaultSound};
 ghost use Rattle.x696.specs.TableLaws.{SoundTable};
 ghost use Rattle.pens.specs.Put.{Put, listedAt, walkBehind, nodeOctets};
-ghost use Rattle.writing.specs.Members.{members, Members, Member, PutAll};
+ghost use Rattle.reading.specs.Members.{Members, Member};
+ghost use Rattle.writing.specs.Members.{members, PutAll};
 ghost use Rattle.writing.specs.Noted.{Notes};
-use crate::parts::bit_of;
 use crate::parts::is_missing;
-use crate::parts::member_mark;
 use crate::parts::member_missing;
-use crate::parts::member_row;
 use crate::parts::note_presence;
 use octets::nodes::node_kind;
 use octets::nodes::node_number;
@@ -34,7 +32,10 @@ use pens::leaf::write_leaf;
 use pens::pen::Wrote;
 use pens::pen::got;
 use pens::pen::refuse;
+use reading::parts::bit_of;
 use reading::parts::count_marked;
+use reading::parts::member_mark;
+use reading::parts::member_row;
 use table::words::alternative_row;
 use table::words::component_row;
 use table::words::row_count;
@@ -94,7 +95,7 @@ fn write_members(
     to: usize,
     out: &mut [u8],
 ) -> Wrote
-    requires { ⌜ SoundTable (now rows) (now items) × (above ≤ length (now rows) / rowWidth) × Members (now rows) (now items) above inner listed first n × (length (now nodes) ≤ 8192) × (at * nodeWidth ≤ length (now nodes)) × (used ≤ length (now contents)) × (length (now contents) ≤ 65535) × (to ≤ 65536 + (at * nodeOctets + used)) × (to ≡ pre + (bitOctets (markCount (members (now rows) (now items) inner listed first n)))) × (now out ≡ sets (now out) pre (replicate (bitOctets (markCount (members (now rows) (now items) inner listed first n))) 0)) ⌝ }
+    requires { ⌜ SoundTable (now rows) (now items) × (above ≤ length (now rows) / rowWidth) × Members (now rows) (now items) above inner listed first 0 n × (length (now nodes) ≤ 8192) × (at * nodeWidth ≤ length (now nodes)) × (used ≤ length (now contents)) × (length (now contents) ≤ 65535) × (to ≤ 65536 + (at * nodeOctets + used)) × (to ≡ pre + (bitOctets (markCount (members (now rows) (now items) inner listed first n)))) × (now out ≡ sets (now out) pre (replicate (bitOctets (markCount (members (now rows) (now items) inner listed first n))) 0)) ⌝ }
     ensures { λ r. ⌜ PutAll (now (nodes .entry)) (now (contents .entry)) (members (now (rows .entry)) (now (items .entry)) inner listed first n) (listedAt (now (nodes .entry)) (now (contents .entry)) at used) pre at used to (now (out .entry)) (now (out .exit)) r ⌝ }
 {
     let mut a = at;
@@ -188,7 +189,11 @@ fn write_row(
     }
     let number = node_number(nodes, at);
     if kind < 10 {
-        return write_leaf(rows, items, row, number, contents, at, used, to, out);
+        // made anew, so that it stays in registers
+        return match write_leaf(rows, items, row, number, contents, at, used, to, out) {
+            Wrote::Refused(f) => Wrote::Refused(f),
+            Wrote::Got(p) => got(p.at, p.used, p.to),
+        };
     }
     if kind == 10 {
         return write_sequence(rows, items, row, number, nodes, contents, at, used, to, out);

@@ -2,6 +2,7 @@
 -- Assumes nothing.
 use native.Mathlib.Omega.{arith}
 use borrow.Author.Needs.{needs}
+use Rattle.reading.proofs.Members.{members-alone}
 use Rattle.writing.proofs.Copies
 use Rattle.writing.proofs.value.write_value.Statement.{statement}
 use Rattle.writing.proofs.value.write_value.Tie as tie
@@ -14,7 +15,7 @@ write-members-requires c κs =
     let start = c .before .before .before .before .before .before in (
       start .pre .0,
       omega (arith, start .pre .1),
-      Copies.alone-members _ _ _ _ 0 (omega arith),
+      members-alone (omega arith),
       start .pre .2,
       start .pre .3,
       start .pre .4,

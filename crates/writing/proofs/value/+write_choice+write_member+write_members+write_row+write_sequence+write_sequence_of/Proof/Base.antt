@@ -39,10 +39,10 @@ use Rattle.table.proofs.words.row_first.Reads as row-first-reads
 use Rattle.table.proofs.words.row_kind.Reads as row-kind-reads
 use Rattle.table.proofs.words.tag_class.Reads as tag-class-reads
 use Rattle.table.proofs.words.tag_number.Reads as tag-number-reads
-use Rattle.writing.proofs.parts.bit_of.Reads as bit-of-reads
-use Rattle.writing.proofs.parts.member_mark.Reads as member-mark-reads
+use Rattle.reading.proofs.parts.bit_of.Reads as bit-of-reads
+use Rattle.reading.proofs.parts.member_mark.Reads as member-mark-reads
 use Rattle.writing.proofs.parts.member_missing.Reads as member-missing-reads
-use Rattle.writing.proofs.parts.member_row.Reads as member-row-reads
+use Rattle.reading.proofs.parts.member_row.Reads as member-row-reads
 use Rattle.writing.proofs.parts.note_presence.Reads as note-presence-reads
 
 abbrev pub μ-write-choice : Measures 5 write-choice-kinds.ps ℕ
@@ -196,6 +196,8 @@ write-row-calls t = (
   node-number-reads.Learnt,
   write-leaf-reads.Asked,
   write-leaf-reads.Learnt,
+  got-reads.Asked,
+  got-reads.Learnt,
   write-sequence-below t,
   write-sequence.Post,
   write-sequence-of-below t,

@@ -6,6 +6,7 @@ use native.Mathlib.Omega.{arith}
 use borrow.Author.Needs.{needs}
 use Rattle.x696.specs.TableRows.{choice-row}
 use Rattle.pens.proofs.Putting
+use Rattle.reading.proofs.Members.{members-alone}
 use Rattle.writing.proofs.Copies
 use Rattle.writing.proofs.Alternatives
 use Rattle.writing.proofs.value.write_choice.Reads.{Post}
@@ -110,7 +111,7 @@ write-members-requires t c κs =
       (
         start .pre .1 .0,
         omega (arith, start .pre .1 .1),
-        Copies.alone-members _ _ _ _ 0 lt,
+        members-alone lt,
         start .pre .1 .2,
         omega (arith, start .pre .1 .3),
         start .pre .1 .4,

@@ -9,6 +9,7 @@ use borrow.Author.Needs.{needs}
 use lib.ListN.{length}
 use Rattle.x696.specs.Value.{nodeWidth}
 use Rattle.pens.specs.Put.{nodeOctets}
+use Rattle.reading.proofs.Members as Laws
 use Rattle.writing.proofs.Members.{marksLeft, MembersLeft}
 use Rattle.writing.proofs.Members
 use Rattle.writing.proofs.value.write_members.Reads.{Post}
@@ -53,15 +54,14 @@ add-member-mark t c =
     let start = c .before .before .before .before .before .before .before in
     omega (
       arith,
-      Members.index-fits (start .args .rows .now) (start .args .items .now) (start .args .above)
-          (start .args .inner) (start .args .first) (start .args .n) (c .before .loop .i)
-          (c .loop-test .taken) (start .args .listed) (start .pre .1 .2) (omega arith) (start .pre .1 .0 .fewItems),
+      Laws.member-fits (start .pre .1 .2) (c .before .loop .i) (c .loop-test .taken)
+          (start .pre .1 .0 .fewItems) 18446744073709551615 (omega arith) (omega arith),
     )
 
 pub member-mark-requires : (t : ℕ) → lts.Need-member-mark-requires (calls t) (here t) Post Inv-loop μ-loop
 member-mark-requires t c κs =
     let start = c .before .before .before .before .before .before .before in
-    Members.index-inside _ _ _ _ _ _ _ (c .loop-test .taken) _ (start .pre .1 .2)
+    λ e. Laws.member-inside (start .pre .1 .2) (c .before .loop .i) (c .loop-test .taken) e
 
 pub add-member-row : (t : ℕ) → lts.Need-add-member-row (calls t) (here t) Post Inv-loop μ-loop
 add-member-row t c =
@@ -69,15 +69,14 @@ add-member-row t c =
     let start = c2 .before .before .before .before .before .before in
     omega (
       arith,
-      Members.index-fits (start .args .rows .now) (start .args .items .now) (start .args .above)
-          (start .args .inner) (start .args .first) (start .args .n) (c2 .loop .i)
-          (c .before .loop-test .taken) (start .args .listed) (start .pre .1 .2) (omega arith) (start .pre .1 .0 .fewItems),
+      Laws.member-fits (start .pre .1 .2) (c2 .loop .i) (c .before .loop-test .taken)
+          (start .pre .1 .0 .fewItems) 18446744073709551615 (omega arith) (omega arith),
     )
 
 pub member-row-requires : (t : ℕ) → lts.Need-member-row-requires (calls t) (here t) Post Inv-loop μ-loop
 member-row-requires t c κs =
     let start = c .before .before .before .before .before .before .before .before in
-    Members.index-inside _ _ _ _ _ _ _ (c .before .loop-test .taken) _ (start .pre .1 .2)
+    λ e. Laws.member-inside (start .pre .1 .2) (c .before .before .loop .i) (c .before .loop-test .taken) e
 
 pub add-write-member : (t : ℕ) → lts.Need-add-write-member (calls t) (here t) Post Inv-loop μ-loop
 add-write-member t c =
@@ -86,9 +85,8 @@ add-write-member t c =
     let start = c3 .before .before .before .before .before .before in
     omega (
       arith,
-      Members.index-fits (start .args .rows .now) (start .args .items .now) (start .args .above)
-          (start .args .inner) (start .args .first) (start .args .n) (c3 .loop .i)
-          (c2 .loop-test .taken) (start .args .listed) (start .pre .1 .2) (omega arith) (start .pre .1 .0 .fewItems),
+      Laws.member-fits (start .pre .1 .2) (c3 .loop .i) (c2 .loop-test .taken)
+          (start .pre .1 .0 .fewItems) 18446744073709551615 (omega arith) (omega arith),
     )
 
 pub write-member-requires : (t : ℕ) → lts.Need-write-member-requires (calls t) (here t) Post Inv-loop μ-loop
@@ -97,9 +95,8 @@ write-member-requires t c κs =
     let c3 = c2 .before in
     let c4 = c3 .before in
     let start = c4 .before .before .before .before .before .before in
-    let one = Members.member-known _ _ _ _ _ _ _ (c3 .loop-test .taken) _ (c4 .loop .b) (start .pre .1 .2)
-    (start .pre .1 .0 .fewItems) (c4 .loop .inv .2 .4)
-    (c .before .member-row .ensures) (c2 .member-mark .ensures) in
+    let one = Laws.member-known (start .pre .1 .2) (c4 .loop .i) (c3 .loop-test .taken) (c4 .loop .b)
+    (omega (arith, c4 .loop .inv .2 .4)) _ _ (c2 .member-mark .ensures) (c .before .member-row .ensures) in
     let lt = one .lower in (
       omega (arith, lt),
       (

@@ -61,23 +61,52 @@ write-leaf-requires t c κs =
       start .pre .1 .6,
     )
 
+pub enum-known-f : (t : ℕ) → lts.Need-enum-known-f (calls t) (here t) Post
+enum-known-f t c = search needs
+
+pub enum-known-p : (t : ℕ) → lts.Need-enum-known-p (calls t) (here t) Post
+enum-known-p t c = search needs
+
+pub got-requires : (t : ℕ) → lts.Need-got-requires (calls t) (here t) Post
+got-requires t c κs = search needs
+
 pub same-length : (t : ℕ) → lts.Need-same-length (calls t) (here t) Post
 same-length t c = search needs
 
 pub returns-3 : (t : ℕ) → lts.Need-returns-3 (calls t) (here t) Post
 returns-3 t c =
-    let c2 = c .before .before in
-    let c5 = c2 .before .before .before in
-    let c6 = c5 .before in
-    let c7 = c6 .before in
-    let c8 = c7 .before in
+    let c5 = c .before .before .before .before .before in
+    let c8 = c5 .before .before .before in
     let c9 = c8 .before in
-    let start = c9 .before .before .before .before .before .before in
+    let c10 = c9 .before in
+    let c11 = c10 .before in
+    let c12 = c11 .before in
+    let start = c12 .before .before .before .before .before .before in
     let sound = start .pre .1 .0 .row (start .args .row) (start .pre .1 .1) in
+    let put = c5 .write-leaf .ensures (start .args .nodes .now) (omega (arith, c12 .if1 .left)) in
     Putting.put-by (NodeTests.row-behind _ _ _ sound _ (start .args .contents .now) _ (start .args .used)
-    (c9 .if1 .left) (c8 .row-kind .ensures) (c7 .node-kind .ensures)
-    (c6 .if2 .left) (c5 .node-number .ensures))
-    (c2 .write-leaf .ensures _ (omega (arith, c9 .if1 .left)))
+    (c12 .if1 .left) (c11 .row-kind .ensures) (c10 .node-kind .ensures)
+    (c9 .if2 .left) (c8 .node-number .ensures))
+    (Putting.put-fault _ (put .stopped _ (c .before .f .given .1)))
+
+pub same-length-2 : (t : ℕ) → lts.Need-same-length-2 (calls t) (here t) Post
+same-length-2 t c = search needs
+
+pub returns-4 : (t : ℕ) → lts.Need-returns-4 (calls t) (here t) Post
+returns-4 t c =
+    let c6 = c .before .before .before .before .before .before in
+    let c9 = c6 .before .before .before in
+    let c10 = c9 .before in
+    let c11 = c10 .before in
+    let c12 = c11 .before in
+    let c13 = c12 .before in
+    let start = c13 .before .before .before .before .before .before in
+    let sound = start .pre .1 .0 .row (start .args .row) (start .pre .1 .1) in
+    let put = c6 .write-leaf .ensures (start .args .nodes .now) (omega (arith, c13 .if1 .left)) in
+    Putting.put-by (NodeTests.row-behind _ _ _ sound _ (start .args .contents .now) _ (start .args .used)
+    (c13 .if1 .left) (c12 .row-kind .ensures) (c11 .node-kind .ensures)
+    (c10 .if2 .left) (c9 .node-number .ensures))
+    (Putting.put-penned (put .went _ (c .before .before .p .given .1)) (c .got .ensures))
 
 pub write-sequence-requires : (t : ℕ) → lts.Need-write-sequence-requires (calls t) (here t) Post
 write-sequence-requires t c κs =
@@ -97,11 +126,11 @@ write-sequence-requires t c κs =
       ),
     )
 
-pub same-length-2 : (t : ℕ) → lts.Need-same-length-2 (calls t) (here t) Post
-same-length-2 t c = search needs
+pub same-length-3 : (t : ℕ) → lts.Need-same-length-3 (calls t) (here t) Post
+same-length-3 t c = search needs
 
-pub returns-4 : (t : ℕ) → lts.Need-returns-4 (calls t) (here t) Post
-returns-4 t c =
+pub returns-5 : (t : ℕ) → lts.Need-returns-5 (calls t) (here t) Post
+returns-5 t c =
     let c2 = c .before .before in
     let c6 = c2 .before .before .before .before in
     let c7 = c6 .before in
@@ -133,11 +162,11 @@ write-sequence-of-requires t c κs =
       ),
     )
 
-pub same-length-3 : (t : ℕ) → lts.Need-same-length-3 (calls t) (here t) Post
-same-length-3 t c = search needs
+pub same-length-4 : (t : ℕ) → lts.Need-same-length-4 (calls t) (here t) Post
+same-length-4 t c = search needs
 
-pub returns-5 : (t : ℕ) → lts.Need-returns-5 (calls t) (here t) Post
-returns-5 t c =
+pub returns-6 : (t : ℕ) → lts.Need-returns-6 (calls t) (here t) Post
+returns-6 t c =
     let c2 = c .before .before in
     let c7 = c2 .before .before .before .before .before in
     let c8 = c7 .before in
@@ -172,11 +201,11 @@ write-choice-requires t c κs =
       ),
     )
 
-pub same-length-4 : (t : ℕ) → lts.Need-same-length-4 (calls t) (here t) Post
-same-length-4 t c = search needs
+pub same-length-5 : (t : ℕ) → lts.Need-same-length-5 (calls t) (here t) Post
+same-length-5 t c = search needs
 
-pub returns-6 : (t : ℕ) → lts.Need-returns-6 (calls t) (here t) Post
-returns-6 t c =
+pub returns-7 : (t : ℕ) → lts.Need-returns-7 (calls t) (here t) Post
+returns-7 t c =
     let c2 = c .before .before in
     let c7 = c2 .before .before .before .before .before in
     let c8 = c7 .before in

@@ -105,7 +105,7 @@ write-members-requires t c κs =
       (
         start .pre .1 .0,
         omega (arith, start .pre .1 .1),
-        Sequences.listed-members _ _ _ _ _ row
+        Sequences.listed-members _ _ _ _ _ row (start .pre .1 .0 .fewItems)
             (c6 .row-first .ensures) (c8 .row-count .ensures),
         start .pre .1 .2,
         omega (arith, start .pre .1 .3),

@@ -4,6 +4,7 @@ use Prim.Native.Nat.{ℕ, _<_}
 use native.Mathlib.Omega.{arith}
 use borrow.Author.Needs.{needs}
 use Rattle.x696.specs.TableRows.{sequenceOf-row}
+use Rattle.reading.proofs.Members.{members-alone}
 use Rattle.writing.proofs.Copies
 use Rattle.writing.proofs.Elements
 use Rattle.writing.proofs.value.write_sequence_of.Reads.{Post}
@@ -43,7 +44,7 @@ write-members-requires t c κs =
       (
         start .pre .1 .0,
         omega (arith, start .pre .1 .1),
-        Copies.alone-members _ _ _ _ 0 lt,
+        members-alone lt,
         start .pre .1 .2,
         omega (arith, start .pre .1 .3),
         start .pre .1 .4,
