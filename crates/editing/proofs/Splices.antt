@@ -6,8 +6,8 @@ use mathlib.Core.List.{List, _++_, append-assoc}
 use Prim.Native.Nat.{ℕ, _+_, _-_, _/_, _%_, _<_, _≤_}
 use native.Mathlib.Omega.{arith}
 use lib.Dec.{eqb}
-use lib.ListN.{length, getD, set, take, drop, length-append, length-drop, length-set, List·getD-append}
-use lib.Seq.{sets, sets-eq, set-append-left, length-take-le, take-all}
+use lib.ListN.{length, getD, set, take, drop, length-append, length-drop, length-set}
+use lib.Seq.{sets, sets-eq, length-take-le, take-all}
 use borrow.Author.Tests.{eq-eqb, ne-eqb, eqb-false}
 use Rattle.x696.specs.Outcome.{got}
 use Rattle.x696.specs.OutcomeLaws.{cases, refused-never}
@@ -23,6 +23,7 @@ use Rattle.x696.specs.TableRows.{kind-known}
 use Rattle.x696.specs.Operations.{over}
 use Rattle.octets.specs.Presence.{withBit, setBit}
 use Rattle.octets.proofs.Stores.{sets-after}
+use Rattle.octets.proofs.EditBits.{setBit-front}
 use Rattle.pens.specs.Put.{Put}
 use Rattle.pens.specs.declared.pen.Wrote.{Wrote}
 use Rattle.pens.specs.declared.pen.Wrote.the-variants.{Got, Refused}
@@ -70,12 +71,6 @@ carried-as rows items row m d ws cs sound marked given {y} {r} walks =
     e ∙ sym (carried-differs t ws cs 0 0 k d is known m marked e w))
 
 -- ---- the stores
-setBit-front : (xs ys : List ℕ) (pre b : ℕ) (x : Bool) → pre + b / 8 < length xs
-    → setBit (xs ++ ys) pre b x ≡ setBit xs pre b x ++ ys
-unfolding setBit
-setBit-front xs ys pre b x h =
-    rw (List·getD-append xs ys 0 (pre + b / 8) h, set-append-left xs ys (pre + b / 8) _ h) refl
-
 setBit-length : (xs : List ℕ) (pre b : ℕ) (x : Bool) → length (setBit xs pre b x) ≡ length xs
 unfolding setBit
 setBit-length xs pre b x = length-set xs (pre + b / 8) _

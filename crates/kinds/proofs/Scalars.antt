@@ -13,7 +13,7 @@ use Rattle.octets.specs.Answers.{fault, number}
 use Rattle.octets.specs.declared.answers.Number.{Number}
 use Rattle.octets.specs.declared.answers.ReadNumber.{ReadNumber}
 use Rattle.octets.specs.declared.answers.ReadNumber.the-variants.{Got as GotNumber, Refused as NoNumber}
-use Rattle.kinds.specs.Run.{cursor, ScalarFound, ScalarAnswer, Ran}
+use Rattle.kinds.specs.Run.{cursor, ScalarAnswer, Ran}
 use Rattle.kinds.specs.declared.cursor.Read.{Read}
 use Rattle.kinds.specs.declared.cursor.Read.the-variants.{Got}
 use Rattle.kinds.proofs.Ran.{ran-leaf}

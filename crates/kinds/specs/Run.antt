@@ -1,6 +1,6 @@
 -- What a reader's answer says in the terms of `read`: where it stands, and what the two lent buffers then hold.
--- Stores skip what does not fit (`sets`), so the same contract at empty buffers is validation. After a refusal nothing is said of
--- the buffers: the operations lend empty parts first. Assumes nothing.
+-- Stores skip what does not fit (`sets`), so the same contract at empty buffers is validation. After a refusal nothing
+-- is said of the buffers: the operations lend empty parts first. Assumes nothing.
 use mathlib.Core.Path.{_≡_}
 use mathlib.Core.List.{List, []}
 use Prim.Native.Nat.{ℕ, suc, _+_, _*_, _≤_}
@@ -29,7 +29,8 @@ cursor p n u x = record { at = p; count = n; used = u; number = x }
 unfoldable pub numberOf : Val → ℕ
 numberOf (node k n os vs) = n
 
--- the outcome o was got as far as c: from octet p, with n nodes and u contents octets before it; the buffers l and b became l′ and b′
+-- the outcome o was got as far as c: from octet p, with n nodes and u contents octets before it; the buffers l and b
+-- became l′ and b′
 pub record Gone (msg : List ℕ) (o : Outcome Message Val) (p n u : ℕ) (l b l′ b′ : List ℕ) (c : Cursor) : Type 0 where
   pub what : Val
   pub reads : o ≡ got what (message (drop (c .at) msg) (c .count))
@@ -76,4 +77,5 @@ fixedBitsAt n msg at count = inMessage (readFixedBits n at (drop at msg)) count
 
 -- what the n octets from `start` on give, which a determinant counts
 unfoldable pub bitsRunAt : (flags a b : ℕ) → (msg : List ℕ) → (at start n count : ℕ) → Outcome Message Val
-bitsRunAt f a b msg at start n count = inMessage (bitsIn f a b at (take n (drop start msg)) (drop (start + n) msg)) count
+bitsRunAt f a b msg at start n count =
+    inMessage (bitsIn f a b at (take n (drop start msg)) (drop (start + n) msg)) count

@@ -45,7 +45,7 @@ unfolding setBit
 setBit-behind xs ys pre b x =
     rw (add-assoc (length xs) pre (b / 8), getD-append-add xs ys (pre + b / 8) 0, set-append-add xs ys (pre + b / 8) _)
 
-setBit-front : (xs ys : List ℕ) (pre b : ℕ) (x : Bool) → pre + b / 8 < length xs
+pub setBit-front : (xs ys : List ℕ) (pre b : ℕ) (x : Bool) → pre + b / 8 < length xs
     → setBit (xs ++ ys) pre b x ≡ setBit xs pre b x ++ ys
 unfolding setBit
 setBit-front xs ys pre b x h =

@@ -1,6 +1,6 @@
--- What a reader's answer says, in the terms of X.696's outcomes: of a refusal its number and place, of a reading what was
--- read and where the octets after it begin. `at` is where the reader began: what it read lies behind it, inside the message.
--- Assumes nothing.
+-- What a reader's answer says, in the terms of X.696's outcomes: of a refusal its number and place, of a reading what
+-- was read and where the octets after it begin. `at` is where the reader began: what it read lies behind it, inside the
+-- message. Assumes nothing.
 use mathlib.Core.Path.{_≡_}
 use mathlib.Core.Bool.{cond}
 use mathlib.Core.List.{List}

@@ -1,6 +1,6 @@
--- What a writer's answer says in the terms of `walk` and `encode`: where the walk stands, and what the lent buffer then holds.
--- Stores skip what does not fit (`sets`), so the same contract at an empty buffer is measuring. After a refusal nothing is said of
--- the buffer: the operations lend an empty part first. Assumes nothing.
+-- What a writer's answer says in the terms of `walk` and `encode`: where the walk stands, and what the lent buffer then
+-- holds. Stores skip what does not fit (`sets`), so the same contract at an empty buffer is measuring. After a refusal
+-- nothing is said of the buffer: the operations lend an empty part first. Assumes nothing.
 use mathlib.Core.Path.{_≡_}
 use mathlib.Core.List.{List, []}
 use Prim.Native.Nat.{ℕ, _+_, _*_, _≤_}
@@ -28,9 +28,10 @@ listedAt ws cs n u = listAt (drop (n * nodeWidth) ws) (drop u cs) n
 abbrev pub nodeOctets : ℕ
 nodeOctets = 256
 
--- the walk o came as far as c: from node n and contents octet u; the octets of its value, by `octets`, stand in the buffer from p
--- on, which became l′ from l
-pub record Penned (ws cs : List ℕ) (o : Outcome Listed Val) (octets : Val → List ℕ) (n u p : ℕ) (l l′ : List ℕ) (c : Pen) : Type 0 where
+-- the walk o came as far as c: from node n and contents octet u; the octets of its value, by `octets`, stand in the
+-- buffer from p on, which became l′ from l
+pub record Penned (ws cs : List ℕ) (o : Outcome Listed Val) (octets : Val → List ℕ) (n u p : ℕ) (l l′ : List ℕ)
+    (c : Pen) : Type 0 where
   pub what : Val
   pub walks : o ≡ got what (listedAt ws cs (c .at) (c .used))
   pub inside : c .at * nodeWidth ≤ length ws
@@ -39,7 +40,8 @@ pub record Penned (ws cs : List ℕ) (o : Outcome Listed Val) (octets : Val → 
   pub bound : c .to + (n * nodeOctets + u) ≤ p + (c .at * nodeOctets + c .used)
   pub stored : l′ ≡ sets l p (octets what)
 
-pub record Put (ws cs : List ℕ) (o : Outcome Listed Val) (octets : Val → List ℕ) (n u p : ℕ) (l l′ : List ℕ) (r : Wrote) : Type 0 where
+pub record Put (ws cs : List ℕ) (o : Outcome Listed Val) (octets : Val → List ℕ) (n u p : ℕ) (l l′ : List ℕ)
+    (r : Wrote) : Type 0 where
   pub went : (c : Pen) → r ≡ Got c → Penned ws cs o octets n u p l l′ c
   pub stopped : (f : Fault) → r ≡ Refused f → o ≡ refused (f .number) (f .place)
 

@@ -67,7 +67,7 @@ record AlternativeReadAs (limit : ℕ) (is : Items) (n : ℕ) (s : List ℕ) (c 
   within : r .count ≤ limit
 
 -- the tag at the place that a tag leads to is that tag
-alternative-tag : (is : Items) (g : Tag) → alternative is g < itemCount is → tagAt is (alternative is g) ≡ g
+pub alternative-tag : (is : Items) (g : Tag) → alternative is g < itemCount is → tagAt is (alternative is g) ≡ g
 unfolding alternative tagAt itemCount choose
 alternative-tag noItems g h = absurd (omega arith)
 alternative-tag (item a b t is) (tag class n) h =

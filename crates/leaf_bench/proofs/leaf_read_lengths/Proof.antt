@@ -31,7 +31,11 @@ wrapping-add-u64-requires : tie.Need-wrapping-add-u64-requires Inv-loop μ-loop
 wrapping-add-u64-requires c κs = search needs
 
 add-at : tie.Need-add-at Inv-loop μ-loop
-add-at c = omega (arith, (c .before .before .before .before .before .before .read-run .ensures .went _ (c .before .before .before .before .p .given .1)) .inside, c .before .before .before .before .before .before .before .before .before .before .good .0 .0)
+add-at c =
+    let c4 = c .before .before .before .before in
+    let c6 = c4 .before .before in
+    let c10 = c6 .before .before .before .before in
+    omega (arith, (c6 .read-run .ensures .went _ (c4 .p .given .1)) .inside, c10 .good .0 .0)
 
 add-i : tie.Need-add-i Inv-loop μ-loop
 add-i c = search needs

@@ -21,7 +21,10 @@ returns : tie.Need-returns
 returns c = nothing-part _ (c .before .before .find-text .ensures .nothing (c .enum-told .given .1))
 
 returns-2 : tie.Need-returns-2
-returns-2 c = shown-part (c .before .before .before .before .find-text .ensures .shown _ (c .before .before .p .given .1))
+returns-2 c =
+    let c2 = c .before .before in
+    let c4 = c2 .before .before in
+    shown-part (c4 .find-text .ensures .shown _ (c2 .p .given .1))
 
 pub oer-read-text-spec : {M : Type 1} → statement M
 oer-read-text-spec = tie.close (tie.spec find-text-requires enum-told enum-known-p sub-t10 returns returns-2)

@@ -15,7 +15,11 @@ below-upper-requires : tie.Need-below-upper-requires
 below-upper-requires c κs = search needs
 
 returns-2 : tie.Need-returns-2
-returns-2 c = signed-above _ _ _ _ (c .before .before .before .pre) (c .before .before .above-lower .ensures) (not-false _ (c .before .if1 .left)) (c .below-upper .ensures)
+returns-2 c =
+    let c2 = c .before .before in
+    let c3 = c2 .before in
+    signed-above _ _ _ _ (c3 .pre) (c2 .above-lower .ensures) (not-false _ (c .before .if1 .left))
+    (c .below-upper .ensures)
 
 pub allowed-signed-spec : {M : Type 1} → statement M
 allowed-signed-spec =

@@ -15,7 +15,11 @@ has-upper-requires : tie.Need-has-upper-requires
 has-upper-requires c κs = search needs
 
 returns-2 : tie.Need-returns-2
-returns-2 c = no-upper _ _ _ (c .before .before .before .has-lower .ensures) (not-false _ (c .before .before .if1 .left)) (c .before .has-upper .ensures) (not-true _ (c .if2 .taken))
+returns-2 c =
+    let c2 = c .before .before in
+    let c3 = c2 .before in
+    no-upper _ _ _ (c3 .has-lower .ensures) (not-false _ (c2 .if1 .left)) (c .before .has-upper .ensures)
+    (not-true _ (c .if2 .taken))
 
 is-unsigned-requires : tie.Need-is-unsigned-requires
 is-unsigned-requires c κs = search needs
@@ -27,10 +31,24 @@ rank-of-requires-2 : tie.Need-rank-of-requires-2
 rank-of-requires-2 c κs = search needs
 
 returns-3 : tie.Need-returns-3
-returns-3 c = order-unsigned _ _ _ (c .before .before .before .before .before .has-lower .ensures) (not-false _ (c .before .before .before .before .if1 .left)) (c .before .before .before .has-upper .ensures) (not-false _ (c .before .before .if2 .left)) (c .before .is-unsigned .ensures) (c .if3 .taken)
+returns-3 c =
+    let c2 = c .before .before in
+    let c3 = c2 .before in
+    let c4 = c3 .before in
+    let c5 = c4 .before in
+    order-unsigned _ _ _ (c5 .has-lower .ensures) (not-false _ (c4 .if1 .left)) (c3 .has-upper .ensures)
+    (not-false _ (c2 .if2 .left)) (c .before .is-unsigned .ensures) (c .if3 .taken)
 
 returns-4 : tie.Need-returns-4
-returns-4 c = rw (c .before .rank-of .ensures, c .rank-of2 .ensures) (order-signed _ _ _ (c .before .before .before .before .before .before .before .has-lower .ensures) (not-false _ (c .before .before .before .before .before .before .if1 .left)) (c .before .before .before .before .before .has-upper .ensures) (not-false _ (c .before .before .before .before .if2 .left)) (c .before .before .before .is-unsigned .ensures) (c .before .before .if3 .left))
+returns-4 c =
+    let c2 = c .before .before in
+    let c3 = c2 .before in
+    let c4 = c3 .before in
+    let c5 = c4 .before in
+    let c6 = c5 .before in
+    let c7 = c6 .before in
+    rw (c .before .rank-of .ensures, c .rank-of2 .ensures)
+    (order-signed _ _ _ (c7 .has-lower .ensures) (not-false _ (c6 .if1 .left)) (c5 .has-upper .ensures) (not-false _ (c4 .if2 .left)) (c3 .is-unsigned .ensures) (c2 .if3 .left))
 
 pub bounds-ordered-spec : {M : Type 1} → statement M
 bounds-ordered-spec =

@@ -19,14 +19,23 @@ row-a-requires c κs = search needs
 
 returns-2 : tie.Need-returns-2
 unfolding noBounds
-returns-2 c = both-holds _ _ (zero-word _ (c .before .before .before .row-flags .ensures) (c .before .before .if1 .left)) (both-fails _ _ (set-word _ (c .before .row-a .ensures) (c .if2 .taken)))
+returns-2 c =
+    let c2 = c .before .before in
+    let c3 = c2 .before in
+    both-holds _ _ (zero-word _ (c3 .row-flags .ensures) (c2 .if1 .left))
+    (both-fails _ _ (set-word _ (c .before .row-a .ensures) (c .if2 .taken)))
 
 row-b-requires : tie.Need-row-b-requires
 row-b-requires c κs = search needs
 
 returns-3 : tie.Need-returns-3
 unfolding noBounds
-returns-3 c = both-holds _ _ (zero-word _ (c .before .before .before .before .row-flags .ensures) (c .before .before .before .if1 .left)) (both-holds _ _ (zero-word _ (c .before .before .row-a .ensures) (c .before .if2 .left)) (ap (λ x. eqb x 0) (c .row-b .ensures)))
+returns-3 c =
+    let c2 = c .before .before in
+    let c3 = c2 .before in
+    let c4 = c3 .before in
+    both-holds _ _ (zero-word _ (c4 .row-flags .ensures) (c3 .if1 .left))
+    (both-holds _ _ (zero-word _ (c2 .row-a .ensures) (c .before .if2 .left)) (ap (λ x. eqb x 0) (c .row-b .ensures)))
 
 pub no-bounds-spec : {M : Type 1} → statement M
 no-bounds-spec =

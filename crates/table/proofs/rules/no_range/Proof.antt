@@ -19,7 +19,10 @@ row-count-requires c κs = search needs
 
 returns-2 : tie.Need-returns-2
 unfolding noRange
-returns-2 c = both-holds _ _ (zero-word _ (c .before .before .row-first .ensures) (c .before .if1 .left)) (ap (λ x. eqb x 0) (c .row-count .ensures))
+returns-2 c =
+    let c2 = c .before .before in
+    both-holds _ _ (zero-word _ (c2 .row-first .ensures) (c .before .if1 .left))
+    (ap (λ x. eqb x 0) (c .row-count .ensures))
 
 pub no-range-spec : {M : Type 1} → statement M
 no-range-spec = tie.close (tie.spec row-first-requires returns row-count-requires returns-2)

@@ -17,7 +17,10 @@ row-count-requires : tie.Need-row-count-requires
 row-count-requires c κs = search needs
 
 returns-2 : tie.Need-returns-2
-returns-2 c = inside-tells _ _ _ (c .before .before .before .items-in .ensures) (c .before .before .row-first .ensures) (c .before .if1 .left) (c .row-count .ensures)
+returns-2 c =
+    let c2 = c .before .before in
+    let c3 = c2 .before in
+    inside-tells _ _ _ (c3 .items-in .ensures) (c2 .row-first .ensures) (c .before .if1 .left) (c .row-count .ensures)
 
 pub range-inside-spec : {M : Type 1} → statement M
 range-inside-spec =

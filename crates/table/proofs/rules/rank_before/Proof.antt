@@ -16,7 +16,11 @@ rank-of-requires-2 : tie.Need-rank-of-requires-2
 rank-of-requires-2 c κs = search needs
 
 returns : tie.Need-returns
-returns c = rw (c .before .before .rank-of .ensures, c .rank-of2 .ensures, c .before .before .before .enumerated-number .ensures, c .before .enumerated-number2 .ensures)
+returns c =
+    let c2 = c .before .before in
+    let c3 = c2 .before in
+    rw
+    (c2 .rank-of .ensures, c .rank-of2 .ensures, c3 .enumerated-number .ensures, c .before .enumerated-number2 .ensures)
 
 pub rank-before-spec : {M : Type 1} → statement M
 rank-before-spec =

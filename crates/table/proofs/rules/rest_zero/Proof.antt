@@ -19,7 +19,10 @@ component-default-requires c κs = search needs
 
 returns-2 : tie.Need-returns-2
 unfolding restZero
-returns-2 c = both-holds _ _ (zero-word _ (c .before .before .component-mark .ensures) (c .before .if1 .left)) (ap (λ x. eqb x 0) (c .component-default .ensures))
+returns-2 c =
+    let c2 = c .before .before in
+    both-holds _ _ (zero-word _ (c2 .component-mark .ensures) (c .before .if1 .left))
+    (ap (λ x. eqb x 0) (c .component-default .ensures))
 
 pub rest-zero-spec : {M : Type 1} → statement M
 rest-zero-spec =
