@@ -51,14 +51,14 @@ fn copy_all(from: &[u8], start: usize, n: usize, out: &mut [u8], to: usize)
     }
 }
 
-// The same of 64 octets. All are read before one is stored, so that no test for overlap is needed to copy them as vectors.
+// The same of 32 octets. All are read before one is stored, so that no test for overlap is needed to copy them as vectors.
 fn copy_block(from: &[u8], start: usize, out: &mut [u8], to: usize)
-    requires { ⌜ (start + 64 ≤ length (now from)) × (to + 64 ≤ length (now out)) ⌝ }
-    ensures { λ _. ⌜ now (out .exit) ≡ sets (now (out .entry)) to (take 64 (drop start (now (from .entry)))) ⌝ }
+    requires { ⌜ (start + 32 ≤ length (now from)) × (to + 32 ≤ length (now out)) ⌝ }
+    ensures { λ _. ⌜ now (out .exit) ≡ sets (now (out .entry)) to (take 32 (drop start (now (from .entry)))) ⌝ }
 {
-    let mut block = [0u8; 64];
-    copy_all(from, start, 64, &mut block, 0);
-    copy_all(&block, 0, 64, out, to);
+    let mut block = [0u8; 32];
+    copy_all(from, start, 32, &mut block, 0);
+    copy_all(&block, 0, 32, out, to);
 }
 
 // Stores n octets of `from`, from `start` on, at `to`, as far as there is room: block by block, then what is left.
@@ -68,9 +68,9 @@ pub fn copy(from: &[u8], start: usize, n: usize, out: &mut [u8], to: usize)
 {
     let m = room_for(out.len(), to, n);
     let mut i = 0; // octets copied
-    while 64 <= m - i {
+    while 32 <= m - i {
         copy_block(from, start + i, out, to + i);
-        i += 64;
+        i += 32;
     }
     copy_all(from, start + i, m - i, out, to + i);
 }

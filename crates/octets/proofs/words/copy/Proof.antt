@@ -48,7 +48,7 @@ loop-again c =
     let a = l .before .before .before .before .args in
     let b = c .before .before .copy-block .ensures in (
       omega arith,
-      b ∙ copied-on (a .from .now) (a .out .now) _ (a .start) (a .to) (l .loop .i) 64 (omega arith) (l .loop .inv .1),
+      b ∙ copied-on (a .from .now) (a .out .now) _ (a .start) (a .to) (l .loop .i) 32 (omega arith) (l .loop .inv .1),
       rw (b, length-sets) (l .loop .inv .2),
     )
 

@@ -25,7 +25,7 @@ same-length c = search needs
 returns : tie.Need-returns
 returns c =
     let a = c .before .before .before .before .before .before .before .before .before .before .args in
-    copied-through (a .from .now) _ (a .out .now) (a .start) (a .to) 64 (omega arith) refl
+    copied-through (a .from .now) _ (a .out .now) (a .start) (a .to) 32 (omega arith) refl
     (c .before .before .before .before .before .before .copy-all .ensures) (c .before .before .copy-all2 .ensures)
 
 pub copy-block-spec : {M : Type 1} → statement M
