@@ -34,7 +34,7 @@ module _ (rows items : List ℕ) where
         given-inv _ _ t λ few _.
         (omega arith, rw isCount (leb-true _ 256 few))
 
-    module _ {r : Judged} (j : Judges rows items n r) where
+    module _ {ns : List ℕ} {r : Judged} (j : Judges rows items n ns r) where
       pub row-bad : r .bad ≡ true → Row (r .row) ≡ asFault (tableFault rows items)
       unfolding tableFault asFault choose
       row-bad b = rw (e, ← isCount, j .refuses b)

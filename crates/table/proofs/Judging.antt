@@ -1,7 +1,7 @@
 -- The rows judged one after the other: what a judged row says, and the fault of n + 1 rows from that of n.
 -- Assumes nothing.
 use mathlib.Core.Path.{_≡_, refl, sym, ap, _∙_}
-use mathlib.Core.Bool.{true, false, false≢true}
+use mathlib.Core.Bool.{Bool, true, false, false≢true}
 use mathlib.Core.List.{List, []}
 use Prim.Native.Nat.{ℕ, zero, suc, _+_, _<_, _≤_}
 use native.Mathlib.Omega.{arith}
@@ -23,29 +23,24 @@ use Rattle.table.specs.declared.nestings.Judged.{Judged}
 use Rattle.table.specs.Judged.{kept, JudgesRow, Judges}
 use Rattle.table.specs.Orders.{SoundBelow}
 
-module _ (rows items : List ℕ) (row : ℕ) (ns : List ℕ) where
-  pub row-breaks : rowSound rows items row ≡ false
-      → JudgesRow rows items row ns (record { bad = true; row = row; nestings = ns })
+module _ (rows items : List ℕ) (row : ℕ) (ns ms : List ℕ) where
+  pub row-breaks : rowSound rows items row ≡ false → JudgesRow rows items row ns ms true
   unfolding given choose
-  row-breaks e = record {
-    refuses = λ _. (refl, rw e);
-    takes = λ b. absurd (false≢true (sym b));
-  }
+  row-breaks e = record { refuses = λ _. rw e; takes = λ b. absurd (false≢true (sym b)) }
 
   module _ (s : rowSound rows items row ≡ true) {deep : ℕ} (e : deep ≡ rowNesting rows items ns row) where
-    pub row-nests : 16 < deep → JudgesRow rows items row ns (record { bad = true; row = row; nestings = ns })
+    pub row-nests : 16 < deep → JudgesRow rows items row ns ms true
     unfolding given choose
     row-nests h = record {
-      refuses = λ _. (refl, rw (s, ← e, lt-leb deep 16 h));
+      refuses = λ _. rw (s, ← e, lt-leb deep 16 h);
       takes = λ b. absurd (false≢true (sym b));
     }
 
-    pub row-taken : deep ≤ 16
-        → JudgesRow rows items row ns (record { bad = false; row = 0; nestings = set ns row deep })
+    pub row-taken : deep ≤ 16 → ms ≡ set ns row deep → JudgesRow rows items row ns ms false
     unfolding given choose
-    row-taken h = record {
+    row-taken h stored = record {
       refuses = λ b. absurd (false≢true b);
-      takes = λ _. (rw (s, ← e, le-leb deep 16 h), rw e);
+      takes = λ _. (rw (s, ← e, le-leb deep 16 h), rw (stored, e) refl);
     }
 
 -- where two functions agree on the items, so do their greatest
@@ -98,7 +93,7 @@ module _ (rows items : List ℕ) where
   rows-more n e = rw (zero-add n, e) at (rows-then 0 n)
 
   pub judged-none : (ns : List ℕ) {n : ℕ} → length ns ≡ 256 → n ≡ 0
-      → Judges rows items n (record { bad = false; row = 0; nestings = ns })
+      → Judges rows items n ns (record { bad = false; row = 0 })
   unfolding rowsFault
   judged-none ns l e = rw e (record {
     refuses = λ b. absurd (false≢true b);
@@ -109,9 +104,9 @@ module _ (rows items : List ℕ) where
   })
 
   module _ (n : ℕ) {m : ℕ} (more : suc n ≡ m) where
-    pub judged-before : (r : Judged) → Judges rows items n r → r .bad ≡ true → Judges rows items m r
+    pub judged-before : (ns : List ℕ) (r : Judged) → Judges rows items n ns r → r .bad ≡ true → Judges rows items m ns r
     unfolding thenRow
-    judged-before r j b = rw (← more) (record {
+    judged-before ns r j b = rw (← more) (record {
       refuses = λ _. rows-more n (j .refuses b);
       takes = λ g. absurd (false≢true (sym g ∙ b));
       below = λ g. absurd (false≢true (sym g ∙ b));
@@ -119,34 +114,30 @@ module _ (rows items : List ℕ) where
       nested = λ g. absurd (false≢true (sym g ∙ b));
     })
 
-    module _ (before r : Judged) (j : Judges rows items n before) (good : before .bad ≡ false)
-        (few : n < 256) (last : JudgesRow rows items n (before .nestings) r) where
-      same : kept rows items (before .nestings) n ≡ kept rows items (nestingsOf rows items n) n
+    module _ (ns ms : List ℕ) (before : Judged) (bad : Bool) (j : Judges rows items n ns before)
+        (good : before .bad ≡ false) (few : n < 256) (last : JudgesRow rows items n ns ms bad) where
+      same : kept rows items ns n ≡ kept rows items (nestingsOf rows items n) n
       same = kept-agree n _ _ (j .nested good)
 
-      last-bad : r .bad ≡ true → rowsFault rows items 0 (suc n) [] ≡ badRow (r .row)
+      last-bad : bad ≡ true → rowsFault rows items 0 (suc n) [] ≡ badRow n
       unfolding thenRow choose
-      last-bad b =
-          let (e, broken) = last .refuses b in
-          rw (rows-more n (j .takes good), sym same ∙ broken, e)
+      last-bad b = rw (rows-more n (j .takes good), sym same ∙ last .refuses b)
 
-      last-sound : r .bad ≡ false → rowsFault rows items 0 (suc n) [] ≡ sound
+      last-sound : bad ≡ false → rowsFault rows items 0 (suc n) [] ≡ sound
       unfolding thenRow choose
       last-sound b = rw (rows-more n (j .takes good), sym same ∙ last .takes b .0)
 
-      sound-last : r .bad ≡ false → rowSound rows items n ≡ true
+      sound-last : bad ≡ false → rowSound rows items n ≡ true
       sound-last b = given-inv _ _ (last .takes b .0) λ s _. s
 
-      sound-more : r .bad ≡ false → SoundBelow rows items (suc n)
+      sound-more : bad ≡ false → SoundBelow rows items (suc n)
       sound-more b k h =
           cases-lt k n
           (λ _ l. j .below good k l)
           (λ _ l. let e : k ≡ n = omega arith in rw e (sound-last b))
 
-      nested-more : r .bad ≡ false → (k : ℕ) → k < suc n
-          → getD (r .nestings) k 0 ≡ getD (nestingsOf rows items (suc n)) k 0
+      nested-more : bad ≡ false → (k : ℕ) → k < suc n → getD ms k 0 ≡ getD (nestingsOf rows items (suc n)) k 0
       nested-more b k h =
-          let ns = before .nestings in
           rw (last .takes b .1)
           (cases-lt k n
           (λ _ l.
@@ -158,11 +149,11 @@ module _ (rows items : List ℕ) where
           (getD-set-same ns n _ 0 (rw (j .whole good) few) ∙ nesting-agree n _ _ (j .nested good) (sound-last b)
           ∙ sym (nestings-at rows items (suc n) n (omega arith)))))
 
-      whole-more : r .bad ≡ false → length (r .nestings) ≡ 256
-      whole-more b = rw (last .takes b .1) (length-set (before .nestings) n _ ∙ j .whole good)
+      whole-more : bad ≡ false → length ms ≡ 256
+      whole-more b = rw (last .takes b .1) (length-set ns n _ ∙ j .whole good)
 
-      pub judged-row : Judges rows items m r
-      judged-row = rw (← more) (record {
+      pub judged-row : {row : ℕ} → row ≡ n → Judges rows items m ms (record { bad = bad; row = row })
+      judged-row is = rw (← more, is) (record {
         refuses = last-bad;
         takes = last-sound;
         below = sound-more;

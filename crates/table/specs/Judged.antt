@@ -26,18 +26,18 @@ abbrev pub kept : (rows items nestings : List ℕ) → (row : ℕ) → Bool
 kept rows items ns r = given (rowSound rows items r) (λ _. leb (rowNesting rows items ns r) 16)
 
 -- one row judged: bad, or sound with its nesting stored
-pub record JudgesRow (rows items : List ℕ) (row : ℕ) (nestings : List ℕ) (r : Judged) : Type 0 where
-  pub refuses : r .bad ≡ true → (r .row ≡ row) × (kept rows items nestings row ≡ false)
-  pub takes : r .bad ≡ false
-      → (kept rows items nestings row ≡ true) × (r .nestings ≡ set nestings row (rowNesting rows items nestings row))
+pub record JudgesRow (rows items : List ℕ) (row : ℕ) (nestings nestings′ : List ℕ) (bad : Bool) : Type 0 where
+  pub refuses : bad ≡ true → kept rows items nestings row ≡ false
+  pub takes : bad ≡ false
+      → (kept rows items nestings row ≡ true) × (nestings′ ≡ set nestings row (rowNesting rows items nestings row))
 
--- the first n rows judged
-pub record Judges (rows items : List ℕ) (n : ℕ) (r : Judged) : Type 0 where
+-- the first n rows judged, their nestings stored
+pub record Judges (rows items : List ℕ) (n : ℕ) (nestings : List ℕ) (r : Judged) : Type 0 where
   pub refuses : r .bad ≡ true → rowsFault rows items 0 n [] ≡ badRow (r .row)
   pub takes : r .bad ≡ false → rowsFault rows items 0 n [] ≡ sound
   pub below : r .bad ≡ false → SoundBelow rows items n
-  pub whole : r .bad ≡ false → length (r .nestings) ≡ 256
-  pub nested : r .bad ≡ false → (k : ℕ) → k < n → getD (r .nestings) k 0 ≡ getD (nestingsOf rows items n) k 0
+  pub whole : r .bad ≡ false → length nestings ≡ 256
+  pub nested : r .bad ≡ false → (k : ℕ) → k < n → getD nestings k 0 ≡ getD (nestingsOf rows items n) k 0
 
 -- the fault of the definitions as the code names it
 unfoldable pub asFault : Meant → TableFault

@@ -45,7 +45,8 @@ pub fn fault_of(rows: &[u64], items: &[u64]) -> TableFault
     if !sizes_sound(rows, items) {
         return TableFault::Size;
     }
-    let judged = judge_rows(rows, items, rows_in(rows));
+    let mut nestings = [0u8; 256];
+    let judged = judge_rows(rows, items, rows_in(rows), &mut nestings);
     if judged.bad {
         return TableFault::Row(judged.row);
     }

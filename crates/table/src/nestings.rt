@@ -24,11 +24,10 @@ use crate::words::row_count;
 use crate::words::row_first;
 use crate::words::row_kind;
 
-// The rows judged so far: the first bad one, if `bad`, and the nesting of each row before it.
+// The rows judged so far: the first bad one, if `bad`.
 pub struct Judged {
     pub bad: bool,
     pub row: usize,
-    pub nestings: [u8; 256],
 }
 
 // The rules of a row but for its nesting, where the smaller rows keep theirs.
@@ -123,51 +122,34 @@ fn row_nesting(rows: &[u64], items: &[u64], row: usize, nestings: &[u8; 256]) ->
     greatest_nesting(items, first, n, COMPONENT_ROW, nestings) + 1
 }
 
-// Row `row` judged, where the rows before it are sound and have these nestings.
-fn judge_row(rows: &[u64], items: &[u64], row: usize, nestings: [u8; 256]) -> Judged
+// Whether row `row` is bad, where the rows before it are sound and have these nestings; its own is stored if not.
+fn judge_row(rows: &[u64], items: &[u64], row: usize, nestings: &mut [u8; 256]) -> bool
     requires { ⌜ (row < length (now rows) / rowWidth) × (row < 256) × SoundBelow (now rows) (now items) row ⌝ }
-    ensures { λ r. ⌜ JudgesRow (now (rows .entry)) (now (items .entry)) row nestings r ⌝ }
+    ensures { λ r. ⌜ JudgesRow (now (rows .entry)) (now (items .entry)) row (now (nestings .entry)) (now (nestings .exit)) r ⌝ }
 {
     if !row_sound(rows, items, row) {
-        return Judged {
-            bad: true,
-            row,
-            nestings,
-        };
+        return true;
     }
-    let deep = row_nesting(rows, items, row, &nestings);
+    let deep = row_nesting(rows, items, row, nestings);
     if 16 < deep {
-        return Judged {
-            bad: true,
-            row,
-            nestings,
-        };
+        return true;
     }
-    let mut more = nestings;
-    more[row] = deep as u8;
-    Judged {
-        bad: false,
-        row: 0,
-        nestings: more,
-    }
+    nestings[row] = deep as u8;
+    false
 }
 
-// The first n rows judged, each once, the row number falling.
-pub fn judge_rows(rows: &[u64], items: &[u64], n: usize) -> Judged
-    requires { ⌜ (n ≤ length (now rows) / rowWidth) × (n ≤ 256) ⌝ }
-    ensures { λ r. ⌜ Judges (now (rows .entry)) (now (items .entry)) n r ⌝ }
+// The first n rows judged, each once, the row number falling; the nestings of those that are sound are stored.
+pub fn judge_rows(rows: &[u64], items: &[u64], n: usize, nestings: &mut [u8; 256]) -> Judged
+    requires { ⌜ (n ≤ length (now rows) / rowWidth) × (n ≤ 256) × (length (now nestings) ≡ 256) ⌝ }
+    ensures { λ r. ⌜ Judges (now (rows .entry)) (now (items .entry)) n (now (nestings .exit)) r ⌝ }
 {
     if n == 0 {
-        return Judged {
-            bad: false,
-            row: 0,
-            nestings: [0; 256],
-        };
+        return Judged { bad: false, row: 0 };
     }
-    let before = judge_rows(rows, items, n - 1);
+    let before = judge_rows(rows, items, n - 1, nestings);
     if before.bad {
         return before;
     }
-    let nestings = before.nestings;
-    judge_row(rows, items, n - 1, nestings)
+    let bad = judge_row(rows, items, n - 1, nestings);
+    Judged { bad, row: n - 1 }
 }
