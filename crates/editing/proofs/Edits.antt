@@ -22,11 +22,11 @@ use Rattle.x696.specs.Operations.{nodeLimit, octetLimit, walkList, resultFits, 
 use Rattle.x696.specs.Editing.{Place, placeIn, edited, editedOctets, edit}
 use Rattle.table.specs.Replies.{asReply}
 use Rattle.table.specs.declared.reply.Reply.{Reply}
-use Rattle.reading.specs.Replied.{Refuses}
+use Rattle.decoding.specs.Replied.{Refuses}
 use Rattle.finding.specs.Placing.{Placed}
 use Rattle.finding.specs.declared.spot.Spot.{Spot}
 use Rattle.finding.specs.declared.spot.Way.{Way}
-use Rattle.writing.specs.Measures.{Accepted, Writes}
+use Rattle.encoding.specs.Measures.{Accepted, Writes}
 use Rattle.editing.specs.Splicing.{Spliced}
 use Rattle.editing.proofs.Held.{start-is, number-is, spliced-is, bit-inside, finds, nodes-held}
 

@@ -7,9 +7,3 @@ pub mod OpenChoice
 pub mod Spots
 pub mod Followings
 pub mod PlaceLaws
-pub mod Floats
-pub mod SettingLaws
-pub mod Flats
-pub mod FlatWords
-pub mod TextLaws
-pub mod SettingExact

@@ -24,8 +24,8 @@ use Rattle.table.specs.Replies.{asReply}
 use Rattle.table.specs.declared.reply.Reply.{Reply}
 use Rattle.octets.specs.declared.answers.Fault.{Fault}
 use Rattle.kinds.proofs.Ran.{offset-is}
-use Rattle.reading.specs.Replied.{Refuses}
-use Rattle.reading.proofs.Replying.{message-long, message-fault}
+use Rattle.decoding.specs.Replied.{Refuses}
+use Rattle.decoding.proofs.Replying.{message-long, message-fault}
 use Rattle.finding.specs.Following.{followed, Finds, Loses}
 use Rattle.finding.specs.Placing.{placeBehind, Placed, PlaceAnswer}
 use Rattle.finding.specs.declared.spot.Way.{Way}

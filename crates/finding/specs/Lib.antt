@@ -2,6 +2,3 @@ pub mod Passing
 pub mod Leading
 pub mod Following
 pub mod Placing
-pub mod Settings
-pub mod Flat
-pub mod Texts

@@ -16,7 +16,7 @@ use Rattle.x696.specs.TableLaws.{SoundTable}
 use Rattle.x696.specs.Operations.{nodeLimit, octetLimit, readMessage}
 use Rattle.x696.specs.Editing.{Place, placeOf}
 use Rattle.table.specs.declared.reply.Reply.{Reply}
-use Rattle.reading.specs.Replied.{Refuses}
+use Rattle.decoding.specs.Replied.{Refuses}
 use Rattle.finding.specs.Following.{Spotted}
 use Rattle.finding.specs.declared.spot.Way.{Way}
 use Rattle.finding.specs.declared.places.FoundIn.{FoundIn}

@@ -12,8 +12,8 @@ ghost use Rattle.finding.specs.Placing.{placeBehind, PlaceAnswer};
 use crate::following::follow;
 use crate::spot::Followed;
 use crate::spot::Way;
-use reading::operations::Asked;
-use reading::operations::asked_row;
+use decoding::operations::Asked;
+use decoding::operations::asked_row;
 use table::reply::Reply;
 use table::reply::refusal;
 

@@ -14,8 +14,8 @@ use Rattle.x696.specs.Setting.{Setting as Meant, Shown, fallback, partOf}
 use Rattle.x696.specs.Editing.{edit, readSetting, showText, shownOctets}
 use Rattle.table.specs.Replies.{asReply}
 use Rattle.table.specs.declared.reply.Reply.{Reply}
-use Rattle.finding.specs.declared.settings.Setting.{Setting}
-use Rattle.finding.specs.Settings.{settingAs, answerAs}
+use Rattle.showing.specs.declared.settings.Setting.{Setting}
+use Rattle.showing.specs.Settings.{settingAs, answerAs}
 use Rattle.oer.specs.Contracts.{Checks, Validates, Decodes, Measures, Writes, Encodes, Edits, Reads, Shows}
 
 -- ---- by cases, both ways

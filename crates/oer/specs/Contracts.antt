@@ -14,8 +14,8 @@ use Rattle.x696.specs.Setting.{Setting as Meant, fallback, partOf}
 use Rattle.x696.specs.Editing.{editedOctets, readSetting, showText}
 use Rattle.table.specs.Replies.{asReply}
 use Rattle.table.specs.declared.reply.Reply.{Reply}
-use Rattle.finding.specs.declared.settings.Setting.{Setting}
-use Rattle.finding.specs.Settings.{settingAs, answerAs}
+use Rattle.showing.specs.declared.settings.Setting.{Setting}
+use Rattle.showing.specs.Settings.{settingAs, answerAs}
 
 -- check a table: 1 TABLE SIZE, 2 TABLE ROW at the first row that breaks a rule, or DONE
 pub record Checks (rows items : List ℕ) (r : Reply) : Type 0 where

@@ -5,7 +5,7 @@ use mathlib.Core.Path.{_≡_}
 use mathlib.Core.List.{List}
 use Prim.Native.Nat.{ℕ}
 use Rattle.table.specs.declared.reply.Reply.{Reply}
-use Rattle.finding.specs.declared.settings.Setting.{Setting}
+use Rattle.showing.specs.declared.settings.Setting.{Setting}
 use Rattle.oer.specs.Contracts.{Checks, Validates, Decodes, Measures, Encodes, Edits, Reads, Shows}
 use Rattle.oer.specs.ContractLaws as laws
 

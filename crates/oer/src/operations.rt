@@ -2,15 +2,15 @@
 // specs/Contracts.antt: what the reply is, and what every word of lent memory then holds, on every input.
 ghost use Rattle.oer.specs.Contracts.{Checks, Validates, Decodes, Measures, Encodes, Edits, Reads, Shows};
 use editing::operations::edit as edit_message;
-use finding::settings::Setting;
-use finding::settings::read_setting as setting_at;
-use finding::texts::show_text as text_at;
-use reading::operations::decode as decode_message;
-use reading::operations::validate as validate_message;
+use showing::settings::Setting;
+use showing::settings::read_setting as setting_at;
+use showing::texts::show_text as text_at;
+use decoding::operations::decode as decode_message;
+use decoding::operations::validate as validate_message;
 use table::check::check as check_table;
 use table::reply::Reply;
-use writing::operations::encode as encode_list;
-use writing::operations::measure as measure_list;
+use encoding::operations::encode as encode_list;
+use encoding::operations::measure as measure_list;
 
 // Check a table: 1 TABLE SIZE, 2 TABLE ROW at the first row that breaks a rule, or DONE.
 // Ruled out, for instance: a check that refuses every table, and one that names a later bad row.

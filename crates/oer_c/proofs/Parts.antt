@@ -4,8 +4,8 @@ use mathlib.Core.Path.{_≡_, refl}
 use mathlib.Core.List.{List}
 use Prim.Native.Nat.{ℕ, _-_}
 use Rattle.x696.specs.Setting.{Shown, fallback}
-use Rattle.finding.specs.declared.texts.Part.{Part}
-use Rattle.finding.specs.Texts.{PartOf}
+use Rattle.showing.specs.declared.texts.Part.{Part}
+use Rattle.showing.specs.Texts.{PartOf}
 use Rattle.oer_c.specs.declared.TextPart.{TextPart}
 use Rattle.oer_c.specs.TextParts.{partAs}
 

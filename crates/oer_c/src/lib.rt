@@ -2,14 +2,14 @@
 // reply is a struct by value. Nothing is asked of a caller but that each pointer is good for its length. include/oer.h is the manual.
 ghost use mathlib.Core.Path.{_≡_};
 ghost use Rattle.x696.specs.Editing.{readSetting, showText};
-ghost use Rattle.finding.specs.Settings.{answerAs};
-ghost use Rattle.finding.specs.Flat.{flatOf};
+ghost use Rattle.showing.specs.Settings.{answerAs};
+ghost use Rattle.showing.specs.Flat.{flatOf};
 ghost use Rattle.oer.specs.Contracts.{Checks, Validates, Decodes, Measures, Encodes, Edits};
 ghost use Rattle.oer_c.specs.TextParts.{partAs};
-use finding::flat::FlatSetting;
-use finding::flat::flatten;
-use finding::texts::Text;
-use finding::texts::find_text;
+use showing::flat::FlatSetting;
+use showing::flat::flatten;
+use showing::texts::Text;
+use showing::texts::find_text;
 use oer::operations::check;
 use oer::operations::decode;
 use oer::operations::edit;

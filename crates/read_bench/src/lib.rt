@@ -1,7 +1,7 @@
 // Check, validate and decode, exported so that a Rust program can count their instructions beside those of its own
 // (bench/reading). Nothing else uses them; they have no contracts of their own, and hand on what the operations answer.
-use reading::operations::decode;
-use reading::operations::validate;
+use decoding::operations::decode;
+use decoding::operations::validate;
 use table::check::check;
 use table::reply::Reply;
 

@@ -9,4 +9,3 @@ pub mod Components
 pub mod Sequences
 pub mod Members
 pub mod OneMember
-pub mod Replying

@@ -8,4 +8,3 @@ pub mod Copies
 pub mod Elements
 pub mod Sequences
 pub mod Alternatives
-pub mod Replying

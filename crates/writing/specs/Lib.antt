@@ -1,3 +1,2 @@
 pub mod Noted
 pub mod Members
-pub mod Measures

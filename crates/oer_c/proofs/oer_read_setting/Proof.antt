@@ -1,7 +1,7 @@
 -- The setting of `oer`, as five numbers.
 -- Assumes nothing.
 use mathlib.Core.Path.{ap, _∙_}
-use Rattle.finding.specs.Flat.{flatOf}
+use Rattle.showing.specs.Flat.{flatOf}
 use Rattle.oer.specs.ContractLaws.{setting-iff}
 use borrow.Author.Needs.{needs}
 use Rattle.oer_c.proofs.oer_read_setting.Statement.{statement}
