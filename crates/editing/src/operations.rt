@@ -4,13 +4,13 @@ ghost use mathlib.Core.Path.{_≡_};
 ghost use Rattle.x696.specs.Editing.{edit as edited};
 ghost use Rattle.encoding.specs.Measures.{Writes};
 use crate::splicing::splice;
+use encoding::lists::Measured;
+use encoding::lists::survey_list;
 use finding::places::FoundIn;
 use finding::places::find_in;
 use table::reply::Reply;
 use table::reply::done;
 use table::reply::refusal;
-use encoding::lists::Measured;
-use encoding::lists::survey_list;
 
 // Edit at a path: the message of the value with that component replaced by the listed one, at the front of the lent
 // buffer. Octets past the count stay, and every refusal leaves the buffer as lent.

@@ -7,10 +7,10 @@ ghost use Rattle.x696.specs.Table.{rowWidth, typeOf};
 ghost use Rattle.x696.specs.TableCheck.{defaultSound};
 ghost use Rattle.x696.specs.TableLaws.{SoundTable};
 ghost use Rattle.encoding.specs.Measures.{ListAnswer};
-use writing::value::write_component;
 use pens::pen::Wrote;
 use table::reply::Reply;
 use table::reply::refusal;
+use writing::value::write_component;
 
 pub enum Measured {
     Got(usize),

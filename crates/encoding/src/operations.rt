@@ -6,12 +6,12 @@ ghost use Rattle.table.specs.Replies.{asReply};
 ghost use Rattle.encoding.specs.Measures.{OctetsAnswer, Writes};
 use crate::lists::Measured;
 use crate::lists::survey_list;
-use writing::value::write_value;
 use decoding::operations::Asked;
 use decoding::operations::asked_row;
 use table::reply::Reply;
 use table::reply::done;
 use table::reply::refusal;
+use writing::value::write_value;
 
 // The octets that a list comes to, with all refusals before ROOM.
 pub fn octets_for(rows: &[u64], items: &[u64], row: u64, nodes: &[u64], contents: &[u8]) -> Measured

@@ -1,16 +1,16 @@
 // The public operations of document 01. Each is one call, and asks nothing of its caller. The contracts stand in
 // specs/Contracts.antt: what the reply is, and what every word of lent memory then holds, on every input.
 ghost use Rattle.oer.specs.Contracts.{Checks, Validates, Decodes, Measures, Encodes, Edits, Reads, Shows};
+use decoding::operations::decode as decode_message;
+use decoding::operations::validate as validate_message;
 use editing::operations::edit as edit_message;
+use encoding::operations::encode as encode_list;
+use encoding::operations::measure as measure_list;
 use showing::settings::Setting;
 use showing::settings::read_setting as setting_at;
 use showing::texts::show_text as text_at;
-use decoding::operations::decode as decode_message;
-use decoding::operations::validate as validate_message;
 use table::check::check as check_table;
 use table::reply::Reply;
-use encoding::operations::encode as encode_list;
-use encoding::operations::measure as measure_list;
 
 // Check a table: 1 TABLE SIZE, 2 TABLE ROW at the first row that breaks a rule, or DONE.
 // Ruled out, for instance: a check that refuses every table, and one that names a later bad row.

@@ -6,10 +6,6 @@ ghost use Rattle.showing.specs.Settings.{answerAs};
 ghost use Rattle.showing.specs.Flat.{flatOf};
 ghost use Rattle.oer.specs.Contracts.{Checks, Validates, Decodes, Measures, Encodes, Edits};
 ghost use Rattle.oer_c.specs.TextParts.{partAs};
-use showing::flat::FlatSetting;
-use showing::flat::flatten;
-use showing::texts::Text;
-use showing::texts::find_text;
 use oer::operations::check;
 use oer::operations::decode;
 use oer::operations::edit;
@@ -17,6 +13,10 @@ use oer::operations::encode;
 use oer::operations::measure;
 use oer::operations::read_setting;
 use oer::operations::validate;
+use showing::flat::FlatSetting;
+use showing::flat::flatten;
+use showing::texts::Text;
+use showing::texts::find_text;
 use table::reply::Reply;
 
 // Where a shown text stands in the message: found 1, its first octet and its length; or found 0, for the caller's fallback.

@@ -6,11 +6,11 @@ use cases::numbers::list_at;
 use cases::numbers::number_at;
 use cases::numbers::octets_at;
 use cases::show::show_next;
-use showing::flat::FlatSetting;
-use showing::flat::flatten;
 use libc::STDOUT_FILENO;
 use oer::operations::read_setting;
 use oer::operations::show_text;
+use showing::flat::FlatSetting;
+use showing::flat::flatten;
 
 fn show_setting(f: FlatSetting) {
     io::print_decimal(STDOUT_FILENO, f.number);

@@ -1,8 +1,8 @@
 // Measure and encode, exported so that a Rust program can count their instructions beside those of its own (bench/writing). Nothing
 // else uses them; they have no contracts of their own, and hand on what the operations answer.
-use table::reply::Reply;
 use encoding::operations::encode;
 use encoding::operations::measure;
+use table::reply::Reply;
 
 // Number and octets in one word; part and place are dropped. A number is at most 13 and octets are at most 65,535, so neither runs
 // into the other.
