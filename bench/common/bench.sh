@@ -35,6 +35,24 @@ row() {
     BEGIN { printf "| %s | %s | %s | %.2f |\n", name, commas(a), commas(b), a / b }'
 }
 
+# beside_plain NAME PREFIX OPERATION..: bench/NAME/main.rs with the crate PREFIX_bench, both sides compared, each operation counted on
+# each workload, and the table printed.
+beside_plain() {
+  local name=$1 prefix=$2 program=target/bench/$1 w f
+  shift 2
+  staticlib "${prefix}_bench"
+  rustc -O --edition 2024 -C target-cpu=x86-64 -o "$program" "bench/$name/main.rs" \
+    -L target/staticlib -l "static=${prefix}_bench"
+  "$program" >&2
+  printf '| Workload | Operation | ours | plain Rust | ratio |\n|---|---|---|---|---|\n'
+  for w in small strings; do
+    functions "$program" "$prefix" "$@" -- "$w"
+    for f; do
+      row "$w | $f" "$(counted "$program" "${prefix}_$f")" "$(counted "$program" "plain_$f")"
+    done
+  done
+}
+
 # --- Programs over the C face ---
 
 # face_tables NAME: bench/NAME/main.rs with the peer and the archive, both sides compared, counted, and the tables
