@@ -26,43 +26,43 @@ module _ (rows items : List ℕ) (row : ℕ) (usable : Usable rows items row) wh
   -- a message is valid exactly if some value within the limits has it as its encoding, and the counts are its sizes
   pub validate_takes : (msg : List ℕ) → Below 8 msg
       → ((validate rows items row msg).number ≡ 0) ↔ ((v : Val) × Within its v × (msg ≡ encode its v))
-  validate_takes msg octets = laws.validate-takes rows items row usable msg octets
+  validate_takes msg octets = laws.validate_takes rows items row usable msg octets
 
   pub validate_counts : (msg : List ℕ) (v : Val) → Within its v → msg ≡ encode its v
       → validate rows items row msg ≡ done_reply (size v) (length (contents v))
-  validate_counts msg v w is = laws.validate-complete rows items row usable msg v w is
+  validate_counts msg v w is = laws.validate_complete rows items row usable msg v w is
 
   -- decoded exactly if there is room besides, and what is handed out is that value's list
   pub decode_takes : (msg ns cs : List ℕ) → Below 8 msg
       → ((decode rows items row msg ns cs).reply.number ≡ 0)
       ↔ ((v : Val) × Within its v × (msg ≡ encode its v) × Room v ns cs)
-  decode_takes msg ns cs octets = laws.decode-takes rows items row usable msg ns cs octets
+  decode_takes msg ns cs octets = laws.decode_takes rows items row usable msg ns cs octets
 
   pub decode_hands : (msg ns cs : List ℕ) (v : Val) → Within its v → msg ≡ encode its v → Room v ns cs
       → decode rows items row msg ns cs ≡ decoded_as v ns cs
-  decode_hands msg ns cs v w is room = laws.decode-complete rows items row usable msg ns cs v w is room
+  decode_hands msg ns cs v w is room = laws.decode_complete rows items row usable msg ns cs v w is room
 
   -- ---- value lists
   -- a list is measured exactly if it is that of some value within the limits, and the count is of its octets
   pub measure_takes : (ws cs : List ℕ) → Below 64 ws → Below 8 cs
       → ((measure rows items row ws cs).number ≡ 0)
       ↔ ((v : Val) × Within its v × (ws ≡ nodes v) × (cs ≡ contents v))
-  measure_takes ws cs words octets = laws.measure-takes rows items row usable ws cs words octets
+  measure_takes ws cs words octets = laws.measure_takes rows items row usable ws cs words octets
 
   pub measure_counts : (ws cs : List ℕ) (v : Val) → Within its v → ws ≡ nodes v → cs ≡ contents v
       → measure rows items row ws cs ≡ done_reply 0 (length (encode its v))
-  measure_counts ws cs v w is is' = laws.measure-complete rows items row usable ws cs v w is is'
+  measure_counts ws cs v w is is' = laws.measure_complete rows items row usable ws cs v w is is'
 
   -- every value within the limits encodes where there is room, to its own octets; and nothing else does
   pub encode_takes : (ws cs out : List ℕ) → Below 64 ws → Below 8 cs
       → ((encode_list rows items row ws cs out).reply.number ≡ 0)
       ↔ ((v : Val) × Within its v × (ws ≡ nodes v) × (cs ≡ contents v) × (length (encode its v) ≤ length out))
-  encode_takes ws cs out words octets = laws.encode-takes rows items row usable ws cs out words octets
+  encode_takes ws cs out words octets = laws.encode_takes rows items row usable ws cs out words octets
 
   pub encode_hands : (ws cs out : List ℕ) (v : Val) → Within its v → ws ≡ nodes v → cs ≡ contents v
       → length (encode its v) ≤ length out
       → encode_list rows items row ws cs out ≡ written_as (encode its v) out
-  encode_hands ws cs out v w is is' room = laws.encode-complete rows items row usable ws cs out v w is is' room
+  encode_hands ws cs out v w is is' room = laws.encode_complete rows items row usable ws cs out v w is is' room
 
   -- ---- both ways
   -- the list of a message that was decoded encodes to that message
@@ -70,7 +70,7 @@ module _ (rows items : List ℕ) (row : ℕ) (usable : Usable rows items row) wh
       → let d = decode rows items row msg ns cs in
       d.reply.number ≡ 0 → length msg ≤ length out
       → encode_list rows items row (list_of d) (contents_in d) out ≡ written_as msg out
-  encode_decoded msg ns cs out octets e room = trip.encode-decoded rows items row usable msg ns cs out octets e room
+  encode_decoded msg ns cs out octets e room = trip.encode_decoded rows items row usable msg ns cs out octets e room
 
   -- the octets of a list that was encoded decode to that list
   pub decode_encoded : (ws cs out ns bs : List ℕ) → Below 64 ws → Below 8 cs
@@ -79,18 +79,18 @@ module _ (rows items : List ℕ) (row : ℕ) (usable : Usable rows items row) wh
       → decode rows items row (result_of w) ns bs
       ≡ record { reply = done_reply (length ws / node_width) (length cs); nodes = over ws ns; contents = over cs bs }
   decode_encoded ws cs out ns bs words octets e h g =
-      trip.decode-encoded rows items row usable ws cs out ns bs words octets e h g
+      trip.decode_encoded rows items row usable ws cs out ns bs words octets e h g
 
 -- on any table: with the room that validate or measure names, decode or encode replies the same
 pub validate_foretells : (rows items : List ℕ) (row : ℕ) (msg ns cs : List ℕ)
     → (validate rows items row msg).nodes * node_width ≤ length ns → (validate rows items row msg).octets ≤ length cs
     → (decode rows items row msg ns cs).reply ≡ validate rows items row msg
-validate_foretells rows items row msg ns cs h g = trip.validate-foretells rows items row msg ns cs h g
+validate_foretells rows items row msg ns cs h g = trip.validate_foretells rows items row msg ns cs h g
 
 pub measure_foretells : (rows items : List ℕ) (row : ℕ) (ws cs out : List ℕ)
     → (measure rows items row ws cs).octets ≤ length out
     → (encode_list rows items row ws cs out).reply ≡ measure rows items row ws cs
-measure_foretells rows items row ws cs out h = trip.measure-foretells rows items row ws cs out h
+measure_foretells rows items row ws cs out h = trip.measure_foretells rows items row ws cs out h
 
 -- ---- two values of one type
 -- if the octets of one begin those of the other, they are one value, and what follows is the same
@@ -110,7 +110,7 @@ module _
         → (validate rows items row msg).number ≡ 0 → (validate rows' items' row' (msg ++ after)).number ≡ 0
         → after ≡ []
     messages_apart msg after octets e e' =
-        trip.messages-apart rows items row usable rows' items' row' usable' one msg after octets e e'
+        trip.messages_apart rows items row usable rows' items' row' usable' one msg after octets e e'
 
     -- messages that hand out one list are one message
     pub messages_one : (msg ns cs msg' ns' cs' : List ℕ) → Below 8 msg → Below 8 msg'
@@ -119,7 +119,7 @@ module _
         d.reply.number ≡ 0 → d'.reply.number ≡ 0 → list_of d ≡ list_of d' → contents_in d ≡ contents_in d'
         → msg ≡ msg'
     messages_one msg ns cs msg' ns' cs' octets octets' e e' list held =
-        trip.messages-one rows items row usable rows' items' row' usable' one msg ns cs msg' ns' cs' octets octets' e e'
+        trip.messages_one rows items row usable rows' items' row' usable' one msg ns cs msg' ns' cs' octets octets' e e'
         list held
 
     -- if the octets of one list begin those of another, they are one list
@@ -129,5 +129,5 @@ module _
         w.reply.number ≡ 0 → w'.reply.number ≡ 0 → result_of w ++ after ≡ result_of w'
         → (ws ≡ ws') × (cs ≡ cs') × (after ≡ [])
     lists_apart ws cs out ws' cs' out' after b o b' o' e e' begins =
-        trip.lists-apart rows items row usable rows' items' row' usable' one ws cs out ws' cs' out' after b o b' o' e e'
+        trip.lists_apart rows items row usable rows' items' row' usable' one ws cs out ws' cs' out' after b o b' o' e e'
         begins

@@ -57,7 +57,7 @@ module _ (rows items : List ℕ) (r : ℕ) where
     pub decode_replies : (ns cs : List ℕ)
         → Replies ((Asking rows or OfMessage (length s)) or NoRoom) (ns ∷ cs ∷ []) (decode rows items r s ns cs).reply
         ((decode rows items r s ns cs).nodes ∷ (decode rows items r s ns cs).contents ∷ [])
-    decode_replies ns cs = lent.decode-replies ns cs rows items r s (decodable_answers rows items r s b ns cs)
+    decode_replies ns cs = lent.decode_replies ns cs rows items r s (decodable_answers rows items r s b ns cs)
 
     pub edit_replies : (p ws cs out : List ℕ)
         → Replies

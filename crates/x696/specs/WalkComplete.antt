@@ -156,6 +156,7 @@ mutual
 
   walk_alternative_complete : (is : Items) {place : ℕ} {v : Val} → FitsAlternative is place v → WellFormedAlternatives is
       → Accepts (λ s. walk_alternative is place s) v
+  walk_alternative_complete no_items h w ws cs n n' e = elim h [ ]
   walk_alternative_complete (item a b t is) (this h) w ws cs n n' e = walk_complete {t = t} h w.1 ws cs n n' e
   walk_alternative_complete (item a b t is) (later h) w ws cs n n' e = walk_alternative_complete is h w.2 ws cs n n' e
 

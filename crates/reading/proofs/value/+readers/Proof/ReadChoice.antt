@@ -101,7 +101,7 @@ read_members_requires t c κs =
       (
         start.requires.1.0,
         omega (arith, start.requires.1.1),
-        Laws.members-alone lt,
+        Laws.members_alone lt,
         start.requires.1.2,
         y.inside,
         omega (arith, y.ahead, start.requires.1.3),
@@ -144,7 +144,7 @@ returns_3 t c =
     let c22 = c21.before in
     let start = c22.before.before.before.before.before.before in
     let sound = start.requires.1.0.row start.args.row start.requires.1.1 in
-    let one = Chains.alone-ran _ (Laws.alone-members _ _ _ _ _ _ _) c7.read-members.ensures in
+    let one = Chains.alone-ran _ (Laws.alone_members _ _ _ _ _ _ _) c7.read-members.ensures in
     Ran.ran-fault _ (Alternatives.chosen-stops _ _ _ _ _ _ start.requires.1.2 sound start.requires.1.5
     c20.read-tag.ensures _ _ _ _ c18.g.given.1 c22.row_first.ensures c21.row_count.ensures
     c16.find-tag.ensures.0
@@ -170,7 +170,7 @@ returns_4 t c =
     let c23 = c22.before in
     let start = c23.before.before.before.before.before.before in
     let sound = start.requires.1.0.row start.args.row start.requires.1.1 in
-    let one = Chains.alone-ran _ (Laws.alone-members _ _ _ _ _ _ _) c8.read-members.ensures in
+    let one = Chains.alone-ran _ (Laws.alone_members _ _ _ _ _ _ _) c8.read-members.ensures in
     Alternatives.chosen-goes _ _ _ _ _ _ start.requires.1.2 sound start.requires.1.5
     c21.read-tag.ensures _ _ _ _ c19.g.given.1 c23.row_first.ensures c22.row_count.ensures
     c17.find-tag.ensures.0

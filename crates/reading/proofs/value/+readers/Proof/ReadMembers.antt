@@ -36,7 +36,7 @@ loop_holds t c =
       search rules,
       refl,
       refl,
-      (start.requires.1.4, start.requires.1.5, omega arith, Chains.chain-start (Laws.members-start _ _ _ _ _ _ _ _ _ _)),
+      (start.requires.1.4, start.requires.1.5, omega arith, Chains.chain-start (Laws.members_start _ _ _ _ _ _ _ _ _ _)),
     )
 
 pub add_member_mark : (t : ℕ) → lts.Need-overflow-add-member-mark (calls t) (here t) Post InvLoop μ-loop
@@ -44,14 +44,14 @@ add_member_mark t c =
     let start = c.before.before.before.before.before.before.before in
     omega (
       arith,
-      Laws.member-fits start.requires.1.2 c.before.loop.i c.loop-test.true
+      Laws.member_fits start.requires.1.2 c.before.loop.i c.loop-test.true
           start.requires.1.0.few_items 18446744073709551615 (omega arith) (omega arith),
     )
 
 pub member_mark_requires : (t : ℕ) → lts.Need-member-mark-requires (calls t) (here t) Post InvLoop μ-loop
 member_mark_requires t c κs =
     let start = c.before.before.before.before.before.before.before in
-    λ e. Laws.member-inside start.requires.1.2 c.before.loop.i c.loop-test.true e
+    λ e. Laws.member_inside start.requires.1.2 c.before.loop.i c.loop-test.true e
 
 pub add_member_row : (t : ℕ) → lts.Need-overflow-add-member-row (calls t) (here t) Post InvLoop μ-loop
 add_member_row t c =
@@ -59,7 +59,7 @@ add_member_row t c =
     let start = c2.before.before.before.before.before.before in
     omega (
       arith,
-      Laws.member-fits start.requires.1.2 c2.loop.i c.before.loop-test.true
+      Laws.member_fits start.requires.1.2 c2.loop.i c.before.loop-test.true
           start.requires.1.0.few_items 18446744073709551615 (omega arith) (omega arith),
     )
 
@@ -67,7 +67,7 @@ pub member_row_requires : (t : ℕ) → lts.Need-member-row-requires (calls t) (
 member_row_requires t c κs =
     let c2 = c.before.before in
     let start = c2.before.before.before.before.before.before in
-    λ e. Laws.member-inside start.requires.1.2 c2.loop.i c.before.loop-test.true e
+    λ e. Laws.member_inside start.requires.1.2 c2.loop.i c.before.loop-test.true e
 
 pub add_read_member : (t : ℕ) → lts.Need-overflow-add-read-member (calls t) (here t) Post InvLoop μ-loop
 add_read_member t c =
@@ -76,7 +76,7 @@ add_read_member t c =
     let start = c3.before.before.before.before.before.before in
     omega (
       arith,
-      Laws.member-fits start.requires.1.2 c3.loop.i c2.loop-test.true
+      Laws.member_fits start.requires.1.2 c3.loop.i c2.loop-test.true
           start.requires.1.0.few_items 18446744073709551615 (omega arith) (omega arith),
     )
 
@@ -87,7 +87,7 @@ read_member_requires t c κs =
     let c4 = c3.before in
     let c5 = c4.before in
     let start = c5.before.before.before.before.before.before in
-    let known = Laws.member-known start.requires.1.2 c5.loop.i c4.loop-test.true _
+    let known = Laws.member_known start.requires.1.2 c5.loop.i c4.loop-test.true _
     c5.loop.invariant.3.2 _ _ c3.member-mark.ensures c2.member-row.ensures in (
       omega arith,
       (
@@ -136,7 +136,7 @@ add_b t c =
       arith,
       c14.loop.inv.3.2,
       c.bit-of.ensures.1,
-      Laws.bit-fits start.pre.1.2 c14.loop.i c13.loop-test.taken 18446744073709551615 (omega arith)
+      Laws.bit_fits start.pre.1.2 c14.loop.i c13.loop-test.taken 18446744073709551615 (omega arith)
           (omega arith),
     )
 
@@ -180,5 +180,5 @@ same_length_4 t c = search rules
 pub returns_2 : (t : ℕ) → lts.Need-returns-2 (calls t) (here t) Post InvLoop μ-loop
 returns_2 t c =
     let c2 = c.before.before in
-    Chains.chain-done c2.loop.invariant.3.3 _ (Laws.members-end _ _ _ _ _ _ _ _ _ _ _ c.before.loop-test.false)
+    Chains.chain-done c2.loop.invariant.3.3 _ (Laws.members_end _ _ _ _ _ _ _ _ _ _ _ c.before.loop-test.false)
     c2.loop.invariant.3.0 c.got.ensures

@@ -143,7 +143,7 @@ read_members_requires t c κs =
       (
         start.requires.1.0,
         omega (arith, start.requires.1.1),
-        Laws.members-among (omega (arith, row.range, c11.row_first.ensures, c10.row_count.ensures))
+        Laws.members_among (omega (arith, row.range, c11.row_first.ensures, c10.row_count.ensures))
             (omega (arith, row.range, start.requires.1.0.few_items, c10.row_count.ensures))
             (λ i h. rw c11.row_first.ensures (row.component i (rw (← c10.row_count.ensures) h))),
         start.requires.1.2,
@@ -181,7 +181,7 @@ returns_3 t c =
     let start = c22.before.before.before in
     let sound = start.requires.1.0.row start.args.row start.requires.1.1 in
     let below = below_known 8 start.args.msg.now (λ i. (c22.shared-slice-known3.given i).fits) in
-    let is = Laws.sequence-members _ _ _ _ _ _ start.requires.1.2 sound start.requires.1.5 _ _ _ 0
+    let is = Laws.sequence_members _ _ _ _ _ _ start.requires.1.2 sound start.requires.1.5 _ _ _ 0
     c19.row_first.ensures
     c18.row_count.ensures c13.count-marked.ensures.0 below (Sequences.preamble-got _ _ _ start.requires.1.2
     c12.if1.false _ c11.is-padded.ensures c10.if2.false) in
@@ -208,7 +208,7 @@ returns_4 t c =
     let start = c23.before.before.before in
     let sound = start.requires.1.0.row start.args.row start.requires.1.1 in
     let below = below_known 8 start.args.msg.now (λ i. (c23.shared-slice-known3.given i).fits) in
-    let is = Laws.sequence-members _ _ _ _ _ _ start.requires.1.2 sound start.requires.1.5 _ _ _ 0
+    let is = Laws.sequence_members _ _ _ _ _ _ start.requires.1.2 sound start.requires.1.5 _ _ _ 0
     c20.row_first.ensures
     c19.row_count.ensures c14.count-marked.ensures.0 below (Sequences.preamble-got _ _ _ start.requires.1.2
     c13.if1.false _ c12.is-padded.ensures c11.if2.false) in

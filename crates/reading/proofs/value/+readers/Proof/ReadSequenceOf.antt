@@ -56,7 +56,7 @@ read_members_requires t c κs =
       (
         start.requires.1.0,
         omega (arith, start.requires.1.1),
-        Laws.members-alone lt,
+        Laws.members_alone lt,
         start.requires.1.2,
         y.inside,
         omega (arith, y.ahead, start.requires.1.3),
@@ -96,7 +96,7 @@ returns_2 t c =
     let c20 = c19.before in
     let start = c20.before.before.before.before.before.before in
     let sound = start.requires.1.0.row start.args.row start.requires.1.1 in
-    let is = Laws.quantity-members _ _ _ _ _ _ start.requires.1.2 sound start.requires.1.5
+    let is = Laws.quantity_members _ _ _ _ _ _ start.requires.1.2 sound start.requires.1.5
     c18.read-quantity.ensures _ _ _ _
     c16.q.given.1 c20.row_first.ensures c19.component-row.ensures in
     Ran.ran-fault _ (Chains.group-stops 11 _ is _ c7.read-members.ensures _ c.before.f2.given.1)
@@ -118,7 +118,7 @@ returns_3 t c =
     let c21 = c20.before in
     let start = c21.before.before.before.before.before.before in
     let sound = start.requires.1.0.row start.args.row start.requires.1.1 in
-    let is = Laws.quantity-members _ _ _ _ _ _ start.requires.1.2 sound start.requires.1.5
+    let is = Laws.quantity_members _ _ _ _ _ _ start.requires.1.2 sound start.requires.1.5
     c19.read-quantity.ensures _ _ _ _
     c17.q.given.1 c21.row_first.ensures c20.component-row.ensures in
     let y = c19.read-quantity.ensures.went _ c17.q.given.1 in

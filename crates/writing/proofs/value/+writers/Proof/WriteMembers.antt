@@ -54,14 +54,14 @@ add_member_mark t c =
     let start = c.before.before.before.before.before.before.before in
     omega (
       arith,
-      Laws.member-fits start.requires.1.2 c.before.loop.i c.loop-test.true
+      Laws.member_fits start.requires.1.2 c.before.loop.i c.loop-test.true
           start.requires.1.0.few_items 18446744073709551615 (omega arith) (omega arith),
     )
 
 pub member_mark_requires : (t : ℕ) → lts.Need-member-mark-requires (calls t) (here t) Post InvLoop μ-loop
 member_mark_requires t c κs =
     let start = c.before.before.before.before.before.before.before in
-    λ e. Laws.member-inside start.requires.1.2 c.before.loop.i c.loop-test.true e
+    λ e. Laws.member_inside start.requires.1.2 c.before.loop.i c.loop-test.true e
 
 pub add_member_row : (t : ℕ) → lts.Need-overflow-add-member-row (calls t) (here t) Post InvLoop μ-loop
 add_member_row t c =
@@ -69,14 +69,14 @@ add_member_row t c =
     let start = c2.before.before.before.before.before.before in
     omega (
       arith,
-      Laws.member-fits start.requires.1.2 c2.loop.i c.before.loop-test.true
+      Laws.member_fits start.requires.1.2 c2.loop.i c.before.loop-test.true
           start.requires.1.0.few_items 18446744073709551615 (omega arith) (omega arith),
     )
 
 pub member_row_requires : (t : ℕ) → lts.Need-member-row-requires (calls t) (here t) Post InvLoop μ-loop
 member_row_requires t c κs =
     let start = c.before.before.before.before.before.before.before.before in
-    λ e. Laws.member-inside start.requires.1.2 c.before.before.loop.i c.before.loop-test.true e
+    λ e. Laws.member_inside start.requires.1.2 c.before.before.loop.i c.before.loop-test.true e
 
 pub add_write_member : (t : ℕ) → lts.Need-overflow-add-write-member (calls t) (here t) Post InvLoop μ-loop
 add_write_member t c =
@@ -85,7 +85,7 @@ add_write_member t c =
     let start = c3.before.before.before.before.before.before in
     omega (
       arith,
-      Laws.member-fits start.requires.1.2 c3.loop.i c2.loop-test.true
+      Laws.member_fits start.requires.1.2 c3.loop.i c2.loop-test.true
           start.requires.1.0.few_items 18446744073709551615 (omega arith) (omega arith),
     )
 
@@ -95,7 +95,7 @@ write_member_requires t c κs =
     let c3 = c2.before in
     let c4 = c3.before in
     let start = c4.before.before.before.before.before.before in
-    let one = Laws.member-known start.requires.1.2 c4.loop.i c3.loop-test.true c4.loop.b
+    let one = Laws.member_known start.requires.1.2 c4.loop.i c3.loop-test.true c4.loop.b
     (omega (arith, c4.loop.invariant.2.4)) _ _ c2.member-mark.ensures c.before.member-row.ensures in
     let lt = one.lower in (
       omega (arith, lt),
