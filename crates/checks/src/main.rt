@@ -1,6 +1,7 @@
 // Runs the check of a type table on the tables of standard input and prints each reply: number, part, place and counts.
 // A line that begins with `#` names a case and is printed as it stands. Any other line is a table: how many words its rows have, the
 // words, how many words its items have, the words; decimal numbers parted by single spaces.
+#![tactic(auto)]
 ghost use Rattle.std.specs.Prelude.{◌≤◌, length};
 
 use cases::numbers::{line_end, list_at};

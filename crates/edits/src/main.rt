@@ -1,5 +1,6 @@
 // Runs edits, and readings of single settings, on the cases of the case file in standard input.
 // docs/FORMATS.md describes its lines.
+#![tactic(auto)]
 use running::run::run;
 
 fn megabyte() -> [u8; 1048576] {

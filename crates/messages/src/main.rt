@@ -1,5 +1,6 @@
 // Runs validate and decode on the messages of the case file in standard input.
 // docs/FORMATS.md describes its lines.
+#![tactic(auto)]
 use running::run::run;
 
 fn megabyte() -> [u8; 1048576] {

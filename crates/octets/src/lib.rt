@@ -2,6 +2,7 @@
 // A reader takes the message, where it reads and the place of a refusal; it answers what it read, or the fault with number and place.
 // A writer stores octets from a place on, skips what does not fit, and answers where the next octet goes: on an empty buffer it only
 // measures.
+#![tactic(auto)]
 pub mod answers;
 pub mod enumerated;
 pub mod fewest;

@@ -1,4 +1,5 @@
 // The type table: its words by name, its check, and each row's nesting worked out once.
+#![tactic(auto)]
 pub mod bounds;
 pub mod check;
 pub mod groups;
