@@ -3,6 +3,7 @@
 // A writer stores octets from a place on, skips what does not fit, and answers where the next octet goes: on an empty buffer it only
 // measures.
 #![tactic(auto)]
+
 pub mod answers;
 pub mod enumerated;
 pub mod fewest;

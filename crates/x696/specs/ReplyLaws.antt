@@ -3,7 +3,7 @@
 use Rattle.std.specs.Prelude.{◌≡◌, List, [], ◌∷◌, ℕ, ◌/◌, ◌<◌, length}
 use Rattle.std.proofs.Math.Path.{refl}
 use Rattle.x696.specs.Digits.{Below}
-use Rattle.x696.specs.Value.{node_width, contents}
+use Rattle.x696.specs.Value.{node_width}
 use Rattle.x696.specs.Setting.{setting_of, fallback}
 use Rattle.x696.specs.Table.{row_width}
 use Rattle.x696.specs.TableFault.{TableFault, sound, bad_size, bad_row, table_fault}

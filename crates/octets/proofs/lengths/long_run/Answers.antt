@@ -1,0 +1,53 @@
+-- The answer of `long_run` is the outcome of `long_run`, one law for each return.
+-- Assumes nothing.
+use native.Mathlib.Omega.{arith}
+use Rattle.octets.proofs.Answered.{run_from, run_refused}
+use Rattle.octets.proofs.CountedRuns.{long_goes, long_huge, long_lacks, long_low, long_none, long_wide}
+use Rattle.octets.proofs.lengths.long_run.Goals as goal
+
+pub returns-then-k-eq0 : goal.returns-then-k-eq0
+returns-then-k-eq0 c = run_refused (long_none _ _ _ c.if-k-eq0.true) c.refused.ensures
+
+pub returns-then-msg-start : goal.returns-then-msg-start
+returns-then-msg-start c =
+    run_refused
+    (long_lacks _ _ _ _ c.requires.0 c.if-k-eq0.false
+    c.if-msg-start.true)
+    c.refused-then-msg-start.ensures
+
+pub returns-then-not-is_fewest : goal.returns-then-not-is_fewest
+returns-then-not-is_fewest c =
+    run_refused
+    (long_wide _ _ _ _ c.requires.0
+    c.if-k-eq0.false c.if-msg-start.false _
+    c.is_fewest.ensures c.if-not-is_fewest.true)
+    c.refused-then-not-is_fewest.ensures
+
+pub returns-then-k-gt8 : goal.returns-then-k-gt8
+returns-then-k-gt8 c =
+    run_refused
+    (long_huge _ _ _ _ c.requires.0
+    c.if-k-eq0.false c.if-msg-start.false _
+    c.is_fewest.ensures c.if-not-is_fewest.false
+    (omega arith) c.if-k-gt8.true)
+    c.refused-then-k-gt8.ensures
+
+pub returns-then-n-lt128 : goal.returns-then-n-lt128
+returns-then-n-lt128 c =
+    run_refused
+    (long_low _ _ _ _ c.requires.0
+    c.if-k-eq0.false
+    c.if-msg-start.false _ c.read_number-n.ensures.0
+    c.if-n-lt128.true)
+    c.refused-then-n-lt128.ensures
+
+pub returns : goal.returns
+returns c =
+    run_from
+    (long_goes _ _ _ _ c.requires.0
+    c.if-k-eq0.false
+    c.if-msg-start.false _
+    c.is_fewest.ensures
+    c.if-not-is_fewest.false _ c.read_number-n.ensures.0
+    c.if-n-lt128.false)
+    (omega arith) c.run_at.ensures

@@ -1,0 +1,16 @@
+-- `put_length` stores the octets of `length_octets`.
+-- Assumes nothing.
+use Rattle.octets.proofs.Puts.{put_length_long, put_length_short}
+use Rattle.octets.proofs.lengths.put_length.Goals as goal
+
+pub returns-then-m-lt128 : goal.returns-then-m-lt128
+returns-then-m-lt128 c = put_length_short _ _ _ _ c.if-m-lt128.true c.put_octet.ensures
+
+pub returns : goal.returns
+returns c =
+    put_length_long _ _ _ _ _ _
+    c.fewest_unsigned-k.ensures.2
+    c.put_number.ensures
+    c.fewest_unsigned-k.ensures.0
+    c.if-m-lt128.false
+    c.put_octet-2.ensures

@@ -1,0 +1,11 @@
+-- The lesser of two octets, under any bound.
+-- Assumes nothing.
+use native.Mathlib.Omega.{arith}
+use Rattle.octets.proofs.Visible.{lesser_first, lesser_second}
+use Rattle.octets.proofs.strings.lesser.Goals as goal
+
+pub returns-then-a-b : goal.returns-then-a-b
+returns-then-a-b c = λ m. lesser_first _ _ m (omega arith)
+
+pub returns-else-a-b : goal.returns-else-a-b
+returns-else-a-b c = λ m. lesser_second _ _ m (omega arith)
