@@ -2,13 +2,13 @@
 -- definition's one, then one law for a test that ends it, and one for a test that lets it go on.
 -- Assumes nothing.
 use mathlib.Core.Path.{◌≡◌, sym, ◌∙◌}
-use mathlib.Core.Bool.{Bool, true, false, not}
+use mathlib.Core.Bool.{Bool, true, false}
 use mathlib.Core.List.{List}
 use Prim.Native.Nat.{ℕ, ◌+◌, ◌/◌, ◌<◌, ◌≤◌}
 use lib.ListN.{length}
 use native.Mathlib.Omega.{arith}
 use lib.Dec.{ltb, leb, eqb}
-use borrow.Author.Tests.{lt-ltb, le-ltb, le-leb, lt-leb, eq-eqb, ne_eqb, leb-true, not-true, not-false}
+use borrow.Author.Tests.{lt-ltb, le-ltb, le-leb, lt-leb, eq-eqb, ne_eqb, leb-true}
 use Rattle.x696.specs.Outcome.{choose}
 use Rattle.x696.specs.Table.{row_first, row_count, item_width}
 use Rattle.x696.specs.TableCheck.{given, range_inside}
@@ -48,15 +48,15 @@ module _ {a x b y : ℕ} (e : a ≡ x) (f : b ≡ y) where
   not_before h = le-ltb x y (rw (← e, ← f) h)
 
 module _ {a x : Bool} (e : a ≡ x) where
-  pub fails : not a ≡ true → x ≡ false
-  fails h = sym e ∙ not-true a h
+  pub fails : a ≡ false → x ≡ false
+  fails h = sym e ∙ h
 
-  pub holds : not a ≡ false → x ≡ true
-  holds h = sym e ∙ not-false a h
+  pub holds : a ≡ true → x ≡ true
+  holds h = sym e ∙ h
 
 -- what the test of a row's range tells
 module _ (rows items : List ℕ) (row : ℕ) {t : Bool} {first n : ℕ} where
-  pub in_range : t ≡ range_inside rows items row → not t ≡ false → first ≡ row_first rows row → n ≡ row_count rows row
+  pub in_range : t ≡ range_inside rows items row → t ≡ true → first ≡ row_first rows row → n ≡ row_count rows row
       → first + n ≤ length items / item_width
   unfolding range_inside
   in_range e h f g = rw (f, g) (leb-true _ _ (holds e h))

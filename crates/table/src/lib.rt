@@ -1,5 +1,6 @@
 // The type table: its words by name, its check, and each row's nesting worked out once.
 #![tactic(auto)]
+
 pub mod bounds;
 pub mod check;
 pub mod groups;
