@@ -2,7 +2,7 @@
 ghost use Rattle.std.specs.Prelude.{◌<◌, ◌≤◌, length};
 
 // A number of the text, and where the next one begins.
-#[derive(Drop)]
+#[derive(Clone, Copy)]
 pub struct Read {
     pub value: u64,
     pub next: usize,

@@ -15,7 +15,7 @@ use table::reply::{Reply, done, refusal};
 use table::words::rows_in;
 
 // Whether a table is sound and has the asked row; or the refusal: 1, 2, 3.
-#[derive(Drop)]
+#[derive(Clone, Copy)]
 pub enum Asked {
     Ready,
     Refused(Reply),
@@ -37,13 +37,13 @@ pub fn asked_row(rows: &[u64], items: &[u64], row: u64) -> Asked
 }
 
 // The sizes of a message's value, or the refusal.
-#[derive(Drop)]
+#[derive(Clone, Copy)]
 pub struct Counts {
     pub nodes: usize,
     pub octets: usize,
 }
 
-#[derive(Drop)]
+#[derive(Clone, Copy)]
 pub enum Surveyed {
     Got(Counts),
     Refused(Reply),

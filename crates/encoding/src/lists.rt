@@ -9,7 +9,7 @@ use pens::pen::Wrote;
 use table::reply::{Reply, refusal};
 use writing::value::write_component;
 
-#[derive(Drop)]
+#[derive(Clone, Copy)]
 pub enum Measured {
     Got(usize),
     Refused(Reply),

@@ -14,7 +14,7 @@ use decoding::operations::{Asked, asked_row};
 use table::reply::{Reply, refusal};
 
 // Where the component stands, in a value that was read whole; or the refusal.
-#[derive(Drop)]
+#[derive(Clone, Copy)]
 pub enum FoundIn {
     Found(Way),
     Refused(Reply),

@@ -4,7 +4,7 @@ use octets::answers::Fault;
 // A child that a step leads into: its row, mark and default, the number of its presence bit, where its own octets
 // begin and the nodes counted before it. Then what stands behind it: the item and the presence bit of the next
 // component, and how many are left.
-#[derive(Drop)]
+#[derive(Clone, Copy)]
 pub struct Opening {
     pub row: usize,
     pub mark: u64,
@@ -17,7 +17,7 @@ pub struct Opening {
     pub left: u64,
 }
 
-#[derive(Drop)]
+#[derive(Clone, Copy)]
 pub enum Opened {
     Into(Opening),
     Nowhere,
@@ -27,7 +27,7 @@ pub enum Opened {
 // Where the component at a path stands: its row, mark and default; whether it is ABSENT; the first of its own octets
 // and the one behind them, equal where it is not carried; its number of nodes and its node's number; the preamble and
 // the number of its presence bit, where it has one.
-#[derive(Drop)]
+#[derive(Clone, Copy)]
 pub struct Spot {
     pub row: usize,
     pub mark: u64,
@@ -43,21 +43,21 @@ pub struct Spot {
 
 // A value that was read whole, as far as octet `at` and with `count` nodes: the path leads to a component of it, or
 // nowhere at a step.
-#[derive(Drop)]
+#[derive(Clone, Copy)]
 pub struct Way {
     pub at: usize,
     pub count: usize,
     pub spot: Spot,
 }
 
-#[derive(Drop)]
+#[derive(Clone, Copy)]
 pub struct Lost {
     pub at: usize,
     pub count: usize,
     pub step: usize,
 }
 
-#[derive(Drop)]
+#[derive(Clone, Copy)]
 pub enum Followed {
     Found(Way),
     Nowhere(Lost),

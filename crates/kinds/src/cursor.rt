@@ -6,7 +6,7 @@ ghost use Rattle.octets.specs.Answers.{fault};
 use octets::answers::Fault;
 
 // The next octet, the nodes counted, the contents octets handed out, and the number of the value's own node.
-#[derive(Drop)]
+#[derive(Clone, Copy)]
 pub struct Cursor {
     pub at: usize,
     pub count: usize,
@@ -14,7 +14,7 @@ pub struct Cursor {
     pub number: u64,
 }
 
-#[derive(Drop)]
+#[derive(Clone, Copy)]
 pub enum Read {
     Got(Cursor),
     Refused(Fault),

@@ -4,15 +4,15 @@ ghost use Rattle.std.specs.Prelude.{◌≡◌, ◌+◌};
 ghost use Rattle.x696.specs.Bits.{bit_octets, unused_bits};
 
 // What a length determinant counts (8.6.2).
-#[derive(Drop)]
+#[derive(Clone, Copy)]
 pub struct Octets(pub u64);
 
 // The size of a BIT STRING (13).
-#[derive(Drop)]
+#[derive(Clone, Copy)]
 pub struct Bits(pub u64);
 
 // What a quantity counts (17.2).
-#[derive(Drop)]
+#[derive(Clone, Copy)]
 pub struct Occurrences(pub u64);
 
 // The octets that these bits fill. Never wraps: the sum n + 7 is not formed.

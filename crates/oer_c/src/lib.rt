@@ -15,7 +15,7 @@ use table::reply::Reply;
 
 // Where a shown text stands in the message: found 1, its first octet and its length; or found 0, for the caller's fallback.
 #[repr(C)]
-#[derive(Drop)]
+#[derive(Clone, Copy)]
 pub struct TextPart {
     pub found: u64,
     pub start: u64,

@@ -6,14 +6,14 @@ ghost use Rattle.octets.specs.Answers.{fault};
 use octets::answers::Fault;
 
 // The next node, the contents octets used, and where the next octet of the result goes.
-#[derive(Drop)]
+#[derive(Clone, Copy)]
 pub struct Pen {
     pub at: usize,
     pub used: usize,
     pub to: usize,
 }
 
-#[derive(Drop)]
+#[derive(Clone, Copy)]
 pub enum Wrote {
     Got(Pen),
     Refused(Fault),

@@ -3,14 +3,14 @@ ghost use Rattle.std.specs.Prelude.{◌≡◌};
 ghost use Rattle.pens.specs.Flat.{number, head};
 
 // A number: where the next octet goes.
-#[derive(Drop)]
+#[derive(Clone, Copy)]
 pub struct Written {
     pub fault: u64,
     pub to: usize,
 }
 
 // What stands before a string's contents: how many contents octets follow it, and where they go.
-#[derive(Drop)]
+#[derive(Clone, Copy)]
 pub struct Head {
     pub fault: u64,
     pub filled: usize,

@@ -11,7 +11,7 @@ use crate::settings::Setting;
 // A refusal's number, part and place, all 0 if there is none; what the setting is, and its word, both 0 if it is
 // refused.
 #[repr(C)]
-#[derive(Drop)]
+#[derive(Clone, Copy)]
 pub struct FlatSetting {
     pub number: u64,
     pub part: u64,

@@ -9,14 +9,14 @@ use table::bounds::is_unsigned;
 use table::words::{row_a, row_flags, row_kind};
 
 // A refusal's three numbers.
-#[derive(Drop)]
+#[derive(Clone, Copy)]
 pub struct Refusal {
     pub number: u64,
     pub part: u64,
     pub place: u64,
 }
 
-#[derive(Drop)]
+#[derive(Clone, Copy)]
 pub enum Setting {
     Refused(Refusal),
     Absent,

@@ -8,13 +8,13 @@ use octets::units::{Bits, octets_of};
 use table::words::row_kind;
 
 // A part of the message.
-#[derive(Drop)]
+#[derive(Clone, Copy)]
 pub struct Part {
     pub start: usize,
     pub end: usize,
 }
 
-#[derive(Drop)]
+#[derive(Clone, Copy)]
 pub enum Text {
     Shown(Part),
     Nothing,

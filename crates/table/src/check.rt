@@ -10,7 +10,7 @@ use crate::reply::{Reply, done, refusal};
 use crate::words::{items_in, rows_in};
 
 // What a table's check comes to.
-#[derive(Drop)]
+#[derive(Clone, Copy)]
 pub enum TableFault {
     Sound,
     Size,

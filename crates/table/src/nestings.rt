@@ -12,7 +12,7 @@ use crate::rules::{enumerated_sound, integer_sound, no_bounds, no_range, string_
 use crate::words::{ALTERNATIVE_ROW, COMPONENT_ROW, item_word, row_count, row_first, row_kind};
 
 // The rows judged so far: the first bad one, if `bad`.
-#[derive(Drop)]
+#[derive(Clone, Copy)]
 pub struct Judged {
     pub bad: bool,
     pub row: usize,

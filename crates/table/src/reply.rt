@@ -4,7 +4,7 @@ ghost use Rattle.table.specs.Replies.{as_reply};
 ghost use Rattle.x696.specs.Reply.{refusal_reply, done_reply};
 
 #[repr(C)]
-#[derive(Drop)]
+#[derive(Clone, Copy)]
 pub struct Reply {
     pub number: u64,
     pub part: u64,
