@@ -2,6 +2,7 @@
 // Those of strings store node and contents, as far as there is room, and answer where the reading then stands. Each
 // answers a fault with number and place instead.
 #![tactic(auto)]
+
 pub mod bits;
 pub mod cursor;
 pub mod integer;
