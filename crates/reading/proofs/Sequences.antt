@@ -2,13 +2,13 @@
 -- return of its reader. Premises are the callees' `ensures`.
 -- Assumes nothing.
 use mathlib.Core.Path.{◌≡◌, refl, ap, ◌∙◌}
-use mathlib.Core.Bool.{Bool, true, false, not}
+use mathlib.Core.Bool.{Bool, true, false}
 use mathlib.Core.List.{List, []}
 use Prim.Native.Nat.{ℕ, zero, suc, ◌+◌, ◌-◌, ◌/◌, ◌^◌, ◌<◌, ◌≤◌}
 use native.Mathlib.Numerals.{add-one}
 use lib.ListN.{length, take, drop}
 use lib.Dec.{eqb}
-use borrow.Author.Tests.{not-true, not-false, eqb-true, eqb-false}
+use borrow.Author.Tests.{eqb-true, eqb-false}
 use Rattle.x696.specs.Outcome.{Outcome, refused, got, next, must}
 use Rattle.x696.specs.OutcomeLaws.{cases}
 use Rattle.x696.specs.Digits.{digits, from_digits}
@@ -37,14 +37,14 @@ module _ (msg : List ℕ) (at k : ℕ) (inside : at ≤ length msg) where
 
   module _ (h : bit_octets k ≤ length msg - at) (t : Bool)
       (et : t ≡ low_bits_clear (unused_bits k) (take (bit_octets k) (drop at msg))) where
-    pub preamble_padded : not t ≡ true → read_preamble k at (drop at msg) ≡ refused 6 at
+    pub preamble_padded : t ≡ false → read_preamble k at (drop at msg) ≡ refused 6 at
     unfolding read_preamble must
-    preamble_padded f = next_got _ (run_there msg at (bit_octets k) at inside h) ∙ rw (← et, not-true t f)
+    preamble_padded f = next_got _ (run_there msg at (bit_octets k) at inside h) ∙ rw (← et, f)
 
-    pub preamble_got : not t ≡ false
+    pub preamble_got : t ≡ true
         → read_preamble k at (drop at msg) ≡ got (bits_at msg at k) (drop (at + bit_octets k) msg)
     unfolding read_preamble must bits_at
-    preamble_got f = next_got _ (run_there msg at (bit_octets k) at inside h) ∙ rw (← et, not-false t f)
+    preamble_got f = next_got _ (run_there msg at (bit_octets k) at inside h) ∙ rw (← et, f)
 
 -- ---- n components from g on
 module _ (f : ℕ → Ty) (items : List ℕ) where

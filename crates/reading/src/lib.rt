@@ -2,6 +2,7 @@
 // what does not fit. The readers of SEQUENCE, SEQUENCE OF and CHOICE call each other, the row number falling at each
 // descent.
 #![tactic(auto)]
+
 pub mod parts;
 pub mod tags;
 pub mod value;
