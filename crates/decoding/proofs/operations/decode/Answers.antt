@@ -1,0 +1,34 @@
+-- Surveyed, the room compared, then read again with the buffers lent.
+-- Assumes nothing.
+use native.Mathlib.Omega.{arith}
+use Rattle.x696.specs.TableLaws.{sound_table}
+use Rattle.decoding.proofs.Replying.{value_known, decode_stop, decode_nodes, decode_contents, decode_done}
+use Rattle.decoding.proofs.operations.decode.Goals as goal
+
+pub returns-then-nodes-count : goal.returns-then-nodes-count
+returns-then-nodes-count c =
+    decode_nodes _ _ _ _ _ _
+    (c.survey.ensures.went _ c.in-Got.is)
+    c.if-nodes-count.true c.refusal.ensures
+
+pub returns-then-contents-used : goal.returns-then-contents-used
+returns-then-contents-used c =
+    decode_contents _ _ _ _ _ _
+    (c.survey.ensures.went _ c.in-Got.is)
+    (omega arith) c.if-contents-used.true c.refusal-then-contents-used.ensures
+
+pub read_value-again-requires : goal.read_value-again-requires
+read_value-again-requires c =
+    let k = value_known _ _ _ _
+    (c.survey.ensures.went _ c.in-Got.is).is
+    in
+    ((sound_table _ _).0 k.fault, k.inside, omega arith, omega arith, k.short)
+
+pub returns-in-Refused : goal.returns-in-Refused
+returns-in-Refused c = decode_stop _ _ _ _ _ _ (c.survey.ensures.stopped _ c.in-Refused.is)
+
+pub returns-else-contents-used : goal.returns-else-contents-used
+returns-else-contents-used c =
+    decode_done _ _ _ _ _ _
+    (c.survey.ensures.went _ c.in-Got.is)
+    (omega arith) (omega arith) _ c.read_value-again.ensures c.done.ensures

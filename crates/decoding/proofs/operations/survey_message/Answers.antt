@@ -1,0 +1,26 @@
+-- The message is measured, read with nothing lent, and its end compared.
+-- Assumes nothing.
+use native.Mathlib.Omega.{arith}
+use Rattle.decoding.proofs.Replying.{value_stop, value_got, message_long_lem, message_fault, message_left}
+use Rattle.decoding.proofs.Replying.{message_done}
+use Rattle.decoding.proofs.operations.survey_message.Goals as goal
+
+pub returns-then-msg-gt65535 : goal.returns-then-msg-gt65535
+returns-then-msg-gt65535 c = value_stop (message_long_lem _ _ c.if-msg-gt65535.true) c.refusal.ensures
+
+pub returns-then-at-msg : goal.returns-then-at-msg
+returns-then-at-msg c =
+    value_stop
+    (message_left _ _ (omega arith) (c.read_value.ensures.went _ c.in-Got.is) c.if-at-msg.true)
+    c.refusal-then-at-msg.ensures
+
+pub returns-in-Refused : goal.returns-in-Refused
+returns-in-Refused c =
+    value_stop
+    (message_fault _ _ (omega arith) (c.read_value.ensures.stopped _ c.in-Refused.is))
+    c.refusal-in-Refused.ensures
+
+pub returns-else-at-msg : goal.returns-else-at-msg
+returns-else-at-msg c =
+    value_got
+    (message_done _ _ (omega arith) (c.read_value.ensures.went _ c.in-Got.is) (omega arith))
