@@ -2,5 +2,6 @@
 // octets where there is room. The writers of SEQUENCE, SEQUENCE OF and CHOICE call each other, the row number falling at each
 // descent.
 #![tactic(auto)]
+
 pub mod parts;
 pub mod value;
