@@ -1,0 +1,25 @@
+-- Measured, the room compared, then written again with the buffer lent.
+-- Assumes nothing.
+use native.Mathlib.Omega.{arith}
+use Rattle.x696.specs.TableLaws.{sound_table}
+use Rattle.encoding.proofs.Replying.{encode_stop, encode_room, encode_done}
+use Rattle.encoding.proofs.operations.encode.Goals as goal
+
+pub returns-then-out-n : goal.returns-then-out-n
+returns-then-out-n c =
+    encode_room _ _ _ _ _ (c.octets_for.ensures.went _ c.in-Got.is) _ c.if-out-n.true
+    c.refusal.ensures
+
+pub write_value-again-requires : goal.write_value-again-requires
+write_value-again-requires c =
+    let g = c.octets_for.ensures.went _ c.in-Got.is in
+    ((sound_table _ _).0 g.fault, g.inside, g.list.few, omega arith, omega arith, g.list.short, omega arith)
+
+pub returns-in-Refused : goal.returns-in-Refused
+returns-in-Refused c = encode_stop _ _ _ _ _ (c.octets_for.ensures.stopped _ c.in-Refused.is) _
+
+pub returns-else-out-n : goal.returns-else-out-n
+returns-else-out-n c =
+    encode_done _ _ _ _ _ (c.octets_for.ensures.went _ c.in-Got.is) _ c.if-out-n.false _
+    c.write_value-again.ensures
+    c.done.ensures
