@@ -11,7 +11,7 @@ use Rattle.x696.specs.Outcome.{refused}
 use Rattle.x696.specs.Value.{Val, Vals}
 use Rattle.x696.specs.Types.{Ty}
 use Rattle.x696.specs.Read.{message}
-use Rattle.x696.specs.Path.{child, child_at, through, found, onward, find_from, child_before}
+use Rattle.x696.specs.Path.{child, child_at, through, onward, find_from, child_before}
 use Rattle.x696.specs.PresencePlace.{bits_before, preamble_start, bit_number}
 use Rattle.x696.specs.BeforeLaws.{before_step, start_step, number_step}
 use Rattle.x696.specs.Table.{type_of}

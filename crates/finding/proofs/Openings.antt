@@ -98,7 +98,7 @@ module _ (rows items msg : List ℕ) (row m d pre b at count i : ℕ) (inside : 
     plain_opens e w = rw (plain_is t m d msg pre b at count inside e, value_inside t msg at count room) w
 
     module _ (marked : m ≡ 0 → ⊥) (x : Bool) (ex : x ≡ eqb (bit_at msg pre b) 1) where
-      pub missing_opens : not x ≡ true → Opens rows items msg row at i P Nowhere
+      pub missing_opens : x ≡ false → Opens rows items msg row at i P Nowhere
       unfolding counted
       missing_opens e =
           opened_nowhere λ v s g.
@@ -106,7 +106,7 @@ module _ (rows items msg : List ℕ) (row m d pre b at count i : ℕ) (inside : 
           let q : missing m d t ≡ v = cc in
           rw (← q) (missing_childless m d t i)
 
-      module _ (there : not x ≡ false) where
+      module _ (there : x ≡ true) where
         carried : P ≡ next D λ v r. must (not (same v (missing m d t))) 6 at (got v r)
         carried =
             rw (value_inside t msg at count room) at (carried_is t m d msg pre b at count inside marked x ex there)
@@ -153,9 +153,9 @@ module _ (rows items msg : List ℕ) (row m d pre b at count i : ℕ) (inside : 
       (λ e. plain_is t m d msg pre b at count inside (eqb-true m 0 e) ∙ full)
       (λ e.
       let marked = eqb-false m 0 e in
-      cases (not (eqb (bit_at msg pre b) 1))
-      (λ f. missing_is t m d msg pre b at count inside marked _ refl f ∙ counted_over msg at count _ h inside)
-      (λ f. carried_is t m d msg pre b at count inside marked _ refl f ∙ next_refused _ full))
+      cases (eqb (bit_at msg pre b) 1)
+      (λ f. carried_is t m d msg pre b at count inside marked _ refl f ∙ next_refused _ full)
+      (λ f. missing_is t m d msg pre b at count inside marked _ refl f ∙ counted_over msg at count _ h inside))
 
   pub full_opens : 4096 ≤ count → Opens rows items msg row at i P Nowhere
   full_opens h = opened_nowhere λ v s g. absurd (refused_never (sym (component_full h) ∙ g))

@@ -109,17 +109,17 @@ module _ (t : Ty) (m d : ℕ) (msg : List ℕ) (pre b at count : ℕ) (inside : 
         marked_is m d t (bit_at msg pre b) (length msg) (message (drop at msg) count) marked
         ∙ rw (bit_zero msg pre b, ← ex, offset_is msg at inside)
 
-    pub missing_is : not x ≡ true
+    pub missing_is : x ≡ false
         → P ≡ counted node_limit (length msg) (message (drop at msg) count) λ s. got (missing m d t) s
     unfolding choose
     missing_is e = by_bit ∙ rw e
 
-    pub carried_is : not x ≡ false → P ≡ next O λ v r. must (not (same v (missing m d t))) 6 at (got v r)
+    pub carried_is : x ≡ true → P ≡ next O λ v r. must (not (same v (missing m d t))) 6 at (got v r)
     unfolding choose
     carried_is e = by_bit ∙ rw e
 
     module _ (fit : Fitting t m d) where
-      pub missing_passed : {r : Read} → not x ≡ true → r ≡ left_out_at d at count → Passed number_of msg P r
+      pub missing_passed : {r : Read} → x ≡ false → r ≡ left_out_at d at count → Passed number_of msg P r
       unfolding left_out_at counted must
       missing_passed e f =
           passed_by (missing_is e)
@@ -133,7 +133,7 @@ module _ (t : Ty) (m d : ℕ) (msg : List ℕ) (pre b at count : ℕ) (inside : 
           }) (rw (lt-leb node_limit count h) at f))
           (λ l h. passed_refused (rw (l, offset_is msg at inside) refl) (rw (le-leb node_limit count h) at f)))
 
-      module _ (there : not x ≡ false) where
+      module _ (there : x ≡ true) where
         pub carried_stops : {k q : ℕ} → O ≡ refused k q → P ≡ refused k q
         carried_stops f = carried_is there ∙ next_refused _ f
 

@@ -1,0 +1,59 @@
+-- The tag, which names the alternative: one law for each return.
+-- Assumes nothing.
+use mathlib.Core.Path.{refl}
+use native.Mathlib.Omega.{arith}
+use Rattle.x696.specs.TableRows.{choice_row}
+use Rattle.octets.proofs.Octets.{below_known}
+use Rattle.reading.proofs.Alternatives.{tag_stops, tag_unknown}
+use Rattle.finding.proofs.Openings.{opened_into, opened_nowhere, opened_refused, opened_fault}
+use Rattle.finding.proofs.OpenChoice.{past_choice, choice_leads}
+use Rattle.finding.proofs.opening.open_choice.Goals as goal
+
+pub returns-then-step-ne0 : goal.returns-then-step-ne0
+returns-then-step-ne0 c =
+    let sound = c.requires.0.row c.args.row c.requires.1 in
+    opened_nowhere (past_choice _ _ _ _ _ _ c.requires.2 sound c.requires.5 _ c.if-step-ne0.true)
+
+pub find_tag-k-requires : goal.find_tag-k-requires
+find_tag-k-requires c =
+    let sound = c.requires.0.row c.args.row c.requires.1 in
+    let row = choice_row _ _ _ sound c.requires.5 in (
+      omega (arith, row.range, c.row_first-first.ensures, c.row_count-n.ensures),
+      rw (c.row_first-first.ensures, c.row_count-n.ensures) row.ascends,
+    )
+
+pub returns-then-n-k : goal.returns-then-n-k
+returns-then-n-k c =
+    let sound = c.requires.0.row c.args.row c.requires.1 in
+    opened_refused (tag_unknown _ _ _ _ _ _ c.requires.2 sound c.requires.5 c.read_tag.ensures _ _ _ _
+    c.in-Got.is
+    c.row_first-first.ensures c.row_count-n.ensures c.find_tag-k.ensures.0
+    c.if-n-k.true) c.refuse.ensures
+
+pub overflow_add-first : goal.overflow_add-first
+overflow_add-first c =
+    let sound = c.requires.0.row c.args.row c.requires.1 in
+    let row = choice_row _ _ _ sound c.requires.5 in
+    omega (arith, row.range, c.requires.0.few_items, c.row_first-first.ensures, c.row_count-n.ensures, c.if-n-k.false)
+
+pub alternative_row-requires : goal.alternative_row-requires
+alternative_row-requires c =
+    let sound = c.requires.0.row c.args.row c.requires.1 in
+    let row = choice_row _ _ _ sound c.requires.5 in
+    omega (arith, row.range, c.row_first-first.ensures, c.row_count-n.ensures, c.if-n-k.false)
+
+pub returns-in-Refused : goal.returns-in-Refused
+returns-in-Refused c =
+    let sound = c.requires.0.row c.args.row c.requires.1 in
+    opened_fault _ (tag_stops _ _ _ _ _ _ c.requires.2 sound c.requires.5 c.read_tag.ensures _
+    c.in-Refused.is)
+
+pub returns-else-n-k : goal.returns-else-n-k
+returns-else-n-k c =
+    let sound = c.requires.0.row c.args.row c.requires.1 in
+    let below = below_known 8 c.args.msg.now (λ i. (c.type_inv.msg i).fits) in
+    rw c.if-step-ne0.false (opened_into (choice_leads _ _ _ _ _ _ c.requires.2 sound c.requires.5 _ _ _
+    c.read_tag.ensures _ c.in-Got.is
+    c.row_first-first.ensures c.row_count-n.ensures c.find_tag-k.ensures.0
+    c.if-n-k.false below _ c.alternative_row.ensures
+    refl refl refl refl refl refl))

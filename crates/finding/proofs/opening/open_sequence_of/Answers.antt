@@ -1,0 +1,53 @@
+-- The quantity, then the elements before the step's own: one law for each return.
+-- Assumes nothing.
+use mathlib.Core.Path.{refl}
+use native.Mathlib.Omega.{arith}
+use Rattle.x696.specs.TableRows.{sequence_of_row}
+use Rattle.octets.proofs.Octets.{below_known}
+use Rattle.reading.proofs.Elements.{quantity_stops}
+use Rattle.finding.proofs.Openings.{opened_into, opened_nowhere, opened_fault}
+use Rattle.finding.proofs.OpenElements.{past_elements, before_stops, sequence_of_leads}
+use Rattle.finding.proofs.opening.open_sequence_of.Goals as goal
+
+pub component_row-inner-requires : goal.component_row-inner-requires
+component_row-inner-requires c =
+    let sound = c.requires.0.row c.args.row c.requires.1 in
+    let row = sequence_of_row _ _ _ sound c.requires.5 in
+    omega (arith, row.range, row.one, c.row_first.ensures)
+
+pub returns-then-many-step : goal.returns-then-many-step
+returns-then-many-step c =
+    let sound = c.requires.0.row c.args.row c.requires.1 in
+    opened_nowhere (past_elements _ _ _ _ _ _ c.requires.2 sound c.requires.5 _ _ _ c.row_first.ensures
+    c.component_row-inner.ensures c.read_quantity.ensures _ c.in-Got.is c.if-many-step.true)
+
+pub pass_elements-requires : goal.pass_elements-requires
+pass_elements-requires c =
+    let sound = c.requires.0.row c.args.row c.requires.1 in
+    let row = sequence_of_row _ _ _ sound c.requires.5 in (
+      c.requires.0,
+      omega (arith, c.requires.1, rw (← c.row_first.ensures) at row.lower, c.component_row-inner.ensures),
+      (c.read_quantity.ensures.went _ c.in-Got.is).inside,
+      c.requires.3,
+    )
+
+pub returns-in-Refused : goal.returns-in-Refused
+returns-in-Refused c =
+    let sound = c.requires.0.row c.args.row c.requires.1 in
+    opened_fault _ (quantity_stops _ _ _ _ _ _ c.requires.2 sound c.requires.5 c.read_quantity.ensures _
+    c.in-Refused.is)
+
+pub returns-in-Refused-pass_elements : goal.returns-in-Refused-pass_elements
+returns-in-Refused-pass_elements c =
+    let sound = c.requires.0.row c.args.row c.requires.1 in
+    opened_fault _ (before_stops _ _ _ _ _ _ c.requires.2 sound c.requires.5 _ _ _ c.row_first.ensures
+    c.component_row-inner.ensures c.read_quantity.ensures _ c.in-Got.is c.if-many-step.false
+    (c.pass_elements.ensures.stopped _ c.in-Refused-pass_elements.is))
+
+pub returns-in-Got-pass_elements : goal.returns-in-Got-pass_elements
+returns-in-Got-pass_elements c =
+    let sound = c.requires.0.row c.args.row c.requires.1 in
+    let below = below_known 8 c.args.msg.now (λ i. (c.type_inv.msg i).fits) in
+    opened_into (sequence_of_leads _ _ _ _ _ _ c.requires.2 sound c.requires.5 _ _ _ c.row_first.ensures
+    c.component_row-inner.ensures c.read_quantity.ensures _ c.in-Got.is c.if-many-step.false below
+    (c.pass_elements.ensures.went _ c.in-Got-pass_elements.is) _ refl refl refl refl refl refl refl)

@@ -1,0 +1,26 @@
+-- Components are read in one go, as the members of a group, with nothing lent.
+-- Assumes nothing.
+use mathlib.Core.Path.{refl}
+use native.Mathlib.Omega.{arith}
+use Rattle.reading.proofs.Members.{members_among}
+use Rattle.finding.proofs.Parts.{all_stopped, all_passed}
+use Rattle.finding.proofs.passing.pass_components.Goals as goal
+
+pub read_members-requires : goal.read_members-requires
+read_members-requires c = (
+  c.requires.0,
+  omega (arith, c.requires.1),
+  members_among c.requires.4 c.requires.7 c.requires.5,
+  c.requires.6,
+  c.requires.2,
+  omega arith,
+  c.requires.3,
+)
+
+pub returns-in-Refused : goal.returns-in-Refused
+returns-in-Refused c = all_stopped refl c.read_members.ensures _ c.in-Refused.is
+
+pub returns-in-Got : goal.returns-in-Got
+returns-in-Got c =
+    all_passed refl c.read_members.ensures _
+    c.in-Got.is c.got.ensures
