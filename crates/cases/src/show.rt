@@ -1,35 +1,37 @@
 // Replies, words and octets in print.
-use libc::STDOUT_FILENO;
 use octets::words::octet;
+use std::io;
+use std::io::Write;
 use table::reply::Reply;
 
 // The five numbers of a reply, parted by spaces.
-pub fn show_reply(r: Reply) {
-    io::print_decimal(STDOUT_FILENO, r.number);
-    show_next(r.part);
-    show_next(r.place);
-    show_next(r.nodes);
-    show_next(r.octets);
+pub fn show_reply<W: Write>(to: &mut W, r: Reply) -> io::Result<()> {
+    write!(to, "{}", r.number)?;
+    show_next(to, r.part)?;
+    show_next(to, r.place)?;
+    show_next(to, r.nodes)?;
+    show_next(to, r.octets)
 }
 
 // A space and a number.
-pub fn show_next(n: u64) {
-    io::write_all(STDOUT_FILENO, b" ");
-    io::print_decimal(STDOUT_FILENO, n);
+pub fn show_next<W: Write>(to: &mut W, n: u64) -> io::Result<()> {
+    write!(to, " {n}")
 }
 
-pub fn show_words(words: &[u64]) {
+pub fn show_words<W: Write>(to: &mut W, words: &[u64]) -> io::Result<()> {
     let mut i = 0;
     while i < words.len() {
-        show_next(words[i]);
+        show_next(to, words[i])?;
         i += 1;
     }
+    Ok(())
 }
 
-pub fn show_octets(octets: &[u8]) {
+pub fn show_octets<W: Write>(to: &mut W, octets: &[u8]) -> io::Result<()> {
     let mut i = 0;
     while i < octets.len() {
-        show_next(octet(octets, i));
+        show_next(to, octet(octets, i))?;
         i += 1;
     }
+    Ok(())
 }

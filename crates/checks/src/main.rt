@@ -2,55 +2,68 @@
 // A line that begins with `#` names a case and is printed as it stands. Any other line is a table: how many words its rows have, the
 // words, how many words its items have, the words; decimal numbers parted by single spaces.
 #![tactic(auto)]
+
 ghost use Rattle.std.specs.Prelude.{◌≤◌, length};
 
 use cases::numbers::{line_end, list_at};
 use cases::show::show_reply;
-use libc::STDOUT_FILENO;
+use std::io;
+use std::io::{BufWriter, Read, Write};
 use table::check::check;
 
 // The reply on the first n and m words, which are there.
-fn show(rows: &[u64], n: usize, items: &[u64], m: usize) {
+fn show<W: Write>(to: &mut W, rows: &[u64], n: usize, items: &[u64], m: usize) -> io::Result<()> {
     if rows.len() < n {
-        return;
+        return Ok(());
     }
     if items.len() < m {
-        return;
+        return Ok(());
     }
-    show_reply(check(&rows[..n], &items[..m]));
-    io::write_all(STDOUT_FILENO, b"\n");
+    show_reply(to, check(&rows[..n], &items[..m]))?;
+    to.write_all(b"\n")
 }
 
 // The table in the line that begins at `at`.
-fn table_at(s: &[u8], at: usize)
+fn table_at<W: Write>(to: &mut W, s: &[u8], at: usize) -> io::Result<()>
     requires { at ≤ length s.now }
 {
     let mut rows = [0u64; 1600];
     let mut items = [0u64; 3200];
     let first = list_at(s, at, &mut rows);
     let second = list_at(s, first.next, &mut items);
-    show(&rows, first.value as usize, &items, second.value as usize);
+    show(
+        to,
+        &rows,
+        first.value as usize,
+        &items,
+        second.value as usize,
+    )
 }
 
-fn run(s: &[u8]) {
+fn run<W: Write>(to: &mut W, s: &[u8]) -> io::Result<()> {
     let mut at = 0;
     while at < s.len() {
         let end = line_end(s, at);
         if s[at] == b'#' {
-            io::write_all(STDOUT_FILENO, &s[at..end]);
+            to.write_all(&s[at..end])?;
         } else {
-            table_at(s, at);
+            table_at(to, s, at)?;
         }
         at = end;
     }
+    Ok(())
 }
 
-fn megabyte() -> [u8; 1048576] {
-    [0u8; 1048576]
+// The first megabyte of standard input.
+fn megabyte(rt: &(impl Input + AllocGlobal)) -> io::Result<Vec<u8>> {
+    let mut text = Vec::new(rt.alloc());
+    rt.reader().take(1048576).read_to_end(&mut text)?;
+    Ok(text)
 }
 
-fn main() {
-    let mut buf = megabyte();
-    let n = io::read_full(0, &mut buf);
-    run(&buf[..n]);
+fn main(rt: HostRuntime) -> io::Result<()> {
+    let text = megabyte(&rt)?;
+    let mut to = BufWriter::new(rt.alloc(), io::writer(&rt))?;
+    run(&mut to, text.as_slice())?;
+    to.flush()
 }
