@@ -6,8 +6,11 @@ use crate::print::print_octets;
 use cases::numbers::{list_at, number_at, octets_at};
 use cases::show::show_reply;
 use oer::operations::edit;
+use std::io;
+use std::io::Write;
 
-fn print_edit(
+fn print_edit<W: Write>(
+    to: &mut W,
     rows: &[u64],
     items: &[u64],
     row: u64,
@@ -16,13 +19,14 @@ fn print_edit(
     nodes: &[u64],
     contents: &[u8],
     out: &mut [u8],
-) {
-    show_reply(edit(rows, items, row, msg, path, nodes, contents, out));
-    print_octets(out);
+) -> io::Result<()> {
+    show_reply(to, edit(rows, items, row, msg, path, nodes, contents, out))?;
+    print_octets(to, out)
 }
 
 // Reads the case and lends the asked part of the buffer, if it has so much.
-fn lend_edit(
+fn lend_edit<W: Write>(
+    to: &mut W,
     s: &[u8],
     at: usize,
     rows: &[u64],
@@ -32,7 +36,7 @@ fn lend_edit(
     nodes: &mut [u64],
     contents: &mut [u8],
     out: &mut [u8],
-)
+) -> io::Result<()>
     requires { at ≤ length s.now }
 {
     let row = number_at(s, at);
@@ -46,21 +50,22 @@ fn lend_edit(
     let p = steps.value as usize;
     let n = words.value as usize;
     if msg.len() < m {
-        return;
+        return Ok(());
     }
     if path.len() < p {
-        return;
+        return Ok(());
     }
     if nodes.len() < n {
-        return;
+        return Ok(());
     }
     if contents.len() < c {
-        return;
+        return Ok(());
     }
     if out.len() < o {
-        return;
+        return Ok(());
     }
     print_edit(
+        to,
         rows,
         items,
         row.value,
@@ -69,11 +74,17 @@ fn lend_edit(
         &nodes[..n],
         &contents[..c],
         &mut out[..o],
-    );
+    )
 }
 
 // The case whose numbers begin at `at`.
-pub fn edit_at(s: &[u8], at: usize, rows: &[u64], items: &[u64])
+pub fn edit_at<W: Write>(
+    to: &mut W,
+    s: &[u8],
+    at: usize,
+    rows: &[u64],
+    items: &[u64],
+) -> io::Result<()>
     requires { at ≤ length s.now }
 {
     let mut msg = [0u8; 66000];
@@ -82,6 +93,7 @@ pub fn edit_at(s: &[u8], at: usize, rows: &[u64], items: &[u64])
     let mut contents = [0u8; 66000];
     let mut out = [7u8; 66000];
     lend_edit(
+        to,
         s,
         at,
         rows,
@@ -91,5 +103,5 @@ pub fn edit_at(s: &[u8], at: usize, rows: &[u64], items: &[u64])
         &mut nodes,
         &mut contents,
         &mut out,
-    );
+    )
 }

@@ -5,22 +5,26 @@ use crate::print::{print_octets, print_reply};
 use cases::numbers::{list_at, number_at, octets_at};
 use cases::show::show_reply;
 use oer::operations::{encode, measure};
+use std::io;
+use std::io::Write;
 
-fn print_list(
+fn print_list<W: Write>(
+    to: &mut W,
     rows: &[u64],
     items: &[u64],
     row: u64,
     nodes: &[u64],
     contents: &[u8],
     out: &mut [u8],
-) {
-    print_reply(measure(rows, items, row, nodes, contents));
-    show_reply(encode(rows, items, row, nodes, contents, out));
-    print_octets(out);
+) -> io::Result<()> {
+    print_reply(to, measure(rows, items, row, nodes, contents))?;
+    show_reply(to, encode(rows, items, row, nodes, contents, out))?;
+    print_octets(to, out)
 }
 
 // Reads the case and lends the asked part of the buffer, if it has so much.
-fn lend_list(
+fn lend_list<W: Write>(
+    to: &mut W,
     s: &[u8],
     at: usize,
     rows: &[u64],
@@ -28,7 +32,7 @@ fn lend_list(
     nodes: &mut [u64],
     contents: &mut [u8],
     out: &mut [u8],
-)
+) -> io::Result<()>
     requires { at ≤ length s.now }
 {
     let row = number_at(s, at);
@@ -38,30 +42,37 @@ fn lend_list(
     let n = words.value as usize;
     let o = room.value as usize;
     if nodes.len() < n {
-        return;
+        return Ok(());
     }
     if contents.len() < c {
-        return;
+        return Ok(());
     }
     if out.len() < o {
-        return;
+        return Ok(());
     }
     print_list(
+        to,
         rows,
         items,
         row.value,
         &nodes[..n],
         &contents[..c],
         &mut out[..o],
-    );
+    )
 }
 
 // The case whose numbers begin at `at`.
-pub fn value_list_at(s: &[u8], at: usize, rows: &[u64], items: &[u64])
+pub fn value_list_at<W: Write>(
+    to: &mut W,
+    s: &[u8],
+    at: usize,
+    rows: &[u64],
+    items: &[u64],
+) -> io::Result<()>
     requires { at ≤ length s.now }
 {
     let mut nodes = [0u64; 9000];
     let mut contents = [0u8; 66000];
     let mut out = [7u8; 66000];
-    lend_list(s, at, rows, items, &mut nodes, &mut contents, &mut out);
+    lend_list(to, s, at, rows, items, &mut nodes, &mut contents, &mut out)
 }
