@@ -23,8 +23,8 @@ nan_of nan e = refl
 nan_of (inf s) e = cc
 nan_of (fin s m e') e = cc
 
-pub is_nan : (f : Format) (b : ℕ) → ones f * hid f < b % top f → of_bits f b ≡ nan
-is_nan f b h = nan_of (of_bits f b) (sym (nan_bits_is f b) ∙ nan_bits_above f b ∙ lt-ltb _ _ h)
+pub is_nan_lem : (f : Format) (b : ℕ) → ones f * hid f < b % top f → of_bits f b ≡ nan
+is_nan_lem f b h = nan_of (of_bits f b) (sym (nan_bits_is f b) ∙ nan_bits_above f b ∙ lt-ltb _ _ h)
 
 pub zero_by_zero : (f : Format) → div f (of_bits f 0) (of_bits f 0) ≡ nan
 unfolding div of_bits
