@@ -1,0 +1,113 @@
+-- One law for each return.
+-- Assumes nothing.
+use native.Mathlib.Omega.{arith}
+use Rattle.octets.proofs.Octets.{below_known}
+use Rattle.editing.proofs.Held.{given_sound, marked_inside, nodes_held, octets_held}
+use Rattle.editing.proofs.Edits.{place_stops, list_stops, nodes_stop, long_stop, room_stop, edit_done}
+use Rattle.editing.proofs.operations.edit.Goals as goal
+
+pub survey_list-requires : goal.survey_list-requires
+survey_list-requires c =
+    let h = c.find_in.ensures.went _ c.in-Found.is in
+    (h.sound, h.spot.inside, given_sound _ _ _ _ _ h)
+
+pub overflow_sub-w : goal.overflow_sub-w
+overflow_sub-w c =
+    let h = c.find_in.ensures.went _ c.in-Found.is in
+    nodes_held _ _ _ _ _ h
+
+pub overflow_add-w : goal.overflow_add-w
+overflow_add-w c =
+    let h = c.find_in.ensures.went _ c.in-Found.is in
+    omega (arith, h.few, (c.survey_list.ensures.went _ c.in-Got.is).few)
+
+pub returns-then-w-s-gt4096 : goal.returns-then-w-s-gt4096
+returns-then-w-s-gt4096 c =
+    let h = c.find_in.ensures.went _ c.in-Found.is in
+    let words = below_known 64 c.args.nodes.now (λ i. (c.type_inv.nodes i).fits) in
+    let octets = below_known 8 c.args.contents.now (λ i. (c.type_inv.contents i).fits) in
+    let table = below_known 64 c.args.items.now (λ i. (c.type_inv.items i).fits) in
+    nodes_stop _ _ _ _ _ _ _ _ h (c.survey_list.ensures.went _ c.in-Got.is) words octets table
+    c.if-w-s-gt4096.true c.refusal.ensures
+
+pub returns-then-n-gt65535 : goal.returns-then-n-gt65535
+returns-then-n-gt65535 c =
+    let h = c.find_in.ensures.went _ c.in-Found.is in
+    let words = below_known 64 c.args.nodes.now (λ i. (c.type_inv.nodes i).fits) in
+    let octets = below_known 8 c.args.contents.now (λ i. (c.type_inv.contents i).fits) in
+    let table = below_known 64 c.args.items.now (λ i. (c.type_inv.items i).fits) in
+    long_stop _ _ _ _ _ _ _ _ h (c.survey_list.ensures.went _ c.in-Got.is) words octets table
+    c.if-w-s-gt4096.false
+    (omega (arith, c.if-n-gt65535.true)) c.refusal-then-n-gt65535.ensures
+
+pub overflow_sub-octets : goal.overflow_sub-octets
+overflow_sub-octets c =
+    let h = c.find_in.ensures.went _ c.in-Found.is in
+    (octets_held _ _ _ _ _ h).0
+
+pub overflow_sub-octets-in-Got : goal.overflow_sub-octets-in-Got
+overflow_sub-octets-in-Got c =
+    let h = c.find_in.ensures.went _ c.in-Found.is in
+    let (low, high) = octets_held _ _ _ _ _ h in
+    omega (arith, low, high)
+
+pub overflow_add-octets : goal.overflow_add-octets
+overflow_add-octets c =
+    let h = c.find_in.ensures.went _ c.in-Found.is in
+    omega (arith, h.short, c.if-n-gt65535.false)
+
+pub returns-then-octets-gt65535 : goal.returns-then-octets-gt65535
+returns-then-octets-gt65535 c =
+    let h = c.find_in.ensures.went _ c.in-Found.is in
+    let words = below_known 64 c.args.nodes.now (λ i. (c.type_inv.nodes i).fits) in
+    let octets = below_known 8 c.args.contents.now (λ i. (c.type_inv.contents i).fits) in
+    let table = below_known 64 c.args.items.now (λ i. (c.type_inv.items i).fits) in
+    long_stop _ _ _ _ _ _ _ _ h (c.survey_list.ensures.went _ c.in-Got.is) words octets table
+    c.if-w-s-gt4096.false
+    c.if-octets-gt65535.true c.refusal-then-octets-gt65535.ensures
+
+pub returns-then-out-octets : goal.returns-then-out-octets
+returns-then-out-octets c =
+    let h = c.find_in.ensures.went _ c.in-Found.is in
+    let words = below_known 64 c.args.nodes.now (λ i. (c.type_inv.nodes i).fits) in
+    let octets = below_known 8 c.args.contents.now (λ i. (c.type_inv.contents i).fits) in
+    let table = below_known 64 c.args.items.now (λ i. (c.type_inv.items i).fits) in
+    room_stop _ _ _ _ _ _ _ _ h (c.survey_list.ensures.went _ c.in-Got.is) words octets table
+    c.if-w-s-gt4096.false
+    c.if-octets-gt65535.false c.if-out-octets.true c.refusal-then-out-octets.ensures
+
+pub splice-requires : goal.splice-requires
+splice-requires c =
+    let h = c.find_in.ensures.went _ c.in-Found.is in
+    let a = c.survey_list.ensures.went _ c.in-Got.is in
+    let (low, high) = octets_held _ _ _ _ _ h in (
+      h.sound,
+      h.spot.inside,
+      given_sound _ _ _ _ _ h,
+      a.few,
+      a.short,
+      h.short,
+      omega (arith, low, high),
+      high,
+      c.if-n-gt65535.false,
+      marked_inside _ _ _ _ _ h,
+      h.spot.few,
+    )
+
+pub returns-in-Refused : goal.returns-in-Refused
+returns-in-Refused c = place_stops _ _ _ _ _ _ _ _ (c.find_in.ensures.stopped _ c.in-Refused.is)
+
+pub returns-in-Refused-survey_list : goal.returns-in-Refused-survey_list
+returns-in-Refused-survey_list c =
+    let h = c.find_in.ensures.went _ c.in-Found.is in
+    list_stops _ _ _ _ _ _ _ _ h (c.survey_list.ensures.stopped _ c.in-Refused-survey_list.is)
+
+pub returns-else-out-octets : goal.returns-else-out-octets
+returns-else-out-octets c =
+    let h = c.find_in.ensures.went _ c.in-Found.is in
+    let words = below_known 64 c.args.nodes.now (λ i. (c.type_inv.nodes i).fits) in
+    let octets = below_known 8 c.args.contents.now (λ i. (c.type_inv.contents i).fits) in
+    let table = below_known 64 c.args.items.now (λ i. (c.type_inv.items i).fits) in
+    edit_done _ _ _ _ _ _ _ _ h (c.survey_list.ensures.went _ c.in-Got.is) words octets table
+    c.if-w-s-gt4096.false
+    c.if-octets-gt65535.false c.if-out-octets.false c.splice.ensures c.done.ensures

@@ -1,0 +1,10 @@
+-- Three runs of stores and one bit.
+-- Assumes nothing.
+use Rattle.editing.proofs.Splices.{splice_done}
+use Rattle.editing.proofs.splicing.splice.Goals as goal
+
+pub returns : goal.returns
+returns c =
+    splice_done _ _ _ _ _ _ _ _ (c.requires.0.row c.args.s.row c.requires.1) c.requires.2
+    c.requires.6 c.requires.7 _ c.copy.ensures
+    c.write_component-new.ensures c.copy-2.ensures c.put_mark.ensures
