@@ -1,6 +1,7 @@
 // The face for C, and through it for Rust and Python: the operations of `oer`, exported. A slice passes as a pointer and then a length, a
 // reply is a struct by value. Nothing is asked of a caller but that each pointer is good for its length. include/oer.h is the manual.
 #![tactic(auto)]
+
 ghost use Rattle.std.specs.Prelude.{◌≡◌};
 ghost use Rattle.x696.specs.Editing.{read_setting, show_text};
 ghost use Rattle.showing.specs.Settings.{answer_as};
