@@ -1,6 +1,7 @@
 // Loops over the leaves of crate `octets`, exported so that a Rust program can count their instructions beside those of its own
 // (bench/leaves). Nothing else uses them; their contracts say what the last leaf's answer adds up to only in that they return.
 #![tactic(auto)]
+
 use octets::answers::{ReadNumber, ReadRun, ReadTag};
 use octets::lengths::{put_length, read_run};
 use octets::tags::{put_tag, read_tag};

@@ -1,6 +1,7 @@
 // Check, validate and decode, exported so that a Rust program can count their instructions beside those of its own
 // (bench/reading). Nothing else uses them; they have no contracts of their own, and hand on what the operations answer.
 #![tactic(auto)]
+
 use decoding::operations::{decode, validate};
 use table::check::check;
 use table::reply::Reply;

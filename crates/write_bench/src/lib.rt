@@ -1,6 +1,7 @@
 // Measure and encode, exported so that a Rust program can count their instructions beside those of its own (bench/writing). Nothing
 // else uses them; they have no contracts of their own, and hand on what the operations answer.
 #![tactic(auto)]
+
 use encoding::operations::{encode, measure};
 use table::reply::Reply;
 
