@@ -9,9 +9,9 @@ use lib.ListN.{length, drop, length-drop, drop_of_length-le}
 use lib.Seq.{sets, sets-eq}
 use borrow.Author.Tests.{lt-ltb, le-ltb, le-leb, lt-leb, leb-true, ltb-true, ne_eqb}
 use Rattle.x696.specs.Outcome.{Outcome, refused, got, next, must}
-use Rattle.x696.specs.OutcomeLaws.{next-inv, must-inv}
+use Rattle.x696.proofs.OutcomeLaws.{next-inv, must-inv}
 use Rattle.x696.specs.Value.{Val, node_width, size, nodes, contents}
-use Rattle.x696.specs.ListLaws.{nodes_length}
+use Rattle.x696.proofs.ListLaws.{nodes_length}
 use Rattle.x696.specs.Types.{Ty}
 use Rattle.x696.specs.Read.{Message, message, read}
 use Rattle.x696.specs.Reply.{Answer, refusal, done, refusal_reply, done_reply, then, answer, unless, in_part}

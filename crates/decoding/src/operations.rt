@@ -2,7 +2,7 @@
 // The order is document 01's: 1, 2, 3; LONG of the message; the first fault in reading order; LEFT OVER; ROOM.
 ghost use Rattle.std.specs.Prelude.{◌≡◌, ◌/◌, ◌<◌, ◌≤◌, length};
 ghost use Rattle.x696.specs.Table.{row_width, type_of};
-ghost use Rattle.x696.specs.TableLaws.{SoundTable};
+ghost use Rattle.x696.specs.SoundTable.{SoundTable};
 ghost use Rattle.x696.specs.Reply.{in_part};
 ghost use Rattle.x696.specs.Operations.{read_message, value_in, validate as validated, decode as decoded};
 ghost use Rattle.table.specs.Replies.{as_reply};

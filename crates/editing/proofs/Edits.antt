@@ -8,16 +8,16 @@ use lib.ListN.{length}
 use borrow.Author.Tests.{le-leb, lt-leb}
 use Rattle.x696.specs.Digits.{Below}
 use Rattle.x696.specs.Value.{Val, size}
-use Rattle.x696.specs.ListLaws.{nodes_length, walk_list_sound}
+use Rattle.x696.proofs.ListLaws.{nodes_length, walk_list_sound}
 use Rattle.x696.specs.Types.{Ty}
 use Rattle.x696.specs.Encode.{encode}
 use Rattle.x696.specs.Path.{replace, octets_before}
-use Rattle.x696.specs.PathLaws.{size_replaced}
-use Rattle.x696.specs.Locality.{length_replaced}
+use Rattle.x696.proofs.PathLaws.{size_replaced}
+use Rattle.x696.proofs.Locality.{length_replaced}
 use Rattle.x696.specs.Reply.{Answer, refusal_reply, done_reply, then, answer, unless, in_part}
 use Rattle.x696.specs.Table.{type_of}
-use Rattle.x696.specs.TableLaws.{sound_table}
-use Rattle.x696.specs.TableTypes.{well_formed}
+use Rattle.x696.proofs.TableLaws.{sound_table}
+use Rattle.x696.proofs.TableTypes.{well_formed}
 use Rattle.x696.specs.Operations.{node_limit, octet_limit, walk_list, result_fits, room_for, over, Written, written}
 use Rattle.x696.specs.Editing.{Place, place_in, edited, edited_octets, edit}
 use Rattle.table.specs.Replies.{as_reply}

@@ -13,7 +13,7 @@ use Rattle.x696.specs.Types.{Ty, missing}
 use Rattle.x696.specs.Fits.{Fits}
 use Rattle.x696.specs.Encode.{presence_bits, encode, own_octets}
 use Rattle.x696.specs.Path.{found, find, replace, octets_before}
-use Rattle.x696.specs.PathLaws.{size_replaced}
+use Rattle.x696.proofs.PathLaws.{size_replaced}
 use Rattle.x696.specs.PresencePlace.{preamble_start, bit_number}
 use Rattle.x696.specs.Table.{type_of}
 use Rattle.x696.specs.TableCheck.{default_sound}

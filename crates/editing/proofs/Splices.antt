@@ -10,16 +10,16 @@ use lib.ListN.{length, get_or, set, take, drop, length-append, length-drop, leng
 use lib.Seq.{sets, sets-eq, length-take-le, take_all}
 use borrow.Author.Tests.{eq-eqb, ne_eqb, eqb-false}
 use Rattle.x696.specs.Outcome.{got}
-use Rattle.x696.specs.OutcomeLaws.{cases, refused_never}
+use Rattle.x696.proofs.OutcomeLaws.{cases, refused_never}
 use Rattle.x696.specs.Value.{Val, same}
-use Rattle.x696.specs.ValueLaws.{same_refl}
+use Rattle.x696.proofs.ValueLaws.{same_refl}
 use Rattle.x696.specs.Types.{Ty, missing}
 use Rattle.x696.specs.Encode.{own_octets}
 use Rattle.x696.specs.Walk.{Listed, list_at, walk_component}
 use Rattle.x696.specs.Table.{row_kind, type_of}
 use Rattle.x696.specs.TableCheck.{default_sound}
 use Rattle.x696.specs.TableFault.{row_sound}
-use Rattle.x696.specs.TableRows.{kind_known}
+use Rattle.x696.proofs.TableRows.{kind_known}
 use Rattle.x696.specs.Operations.{over}
 use Rattle.octets.specs.Presence.{with_bit, set_bit}
 use Rattle.octets.proofs.Stores.{sets_after}

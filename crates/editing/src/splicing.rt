@@ -2,7 +2,7 @@
 ghost use Rattle.std.specs.Prelude.{◌≡◌, Bool, true, not, cond, ℕ, ◌+◌, ◌-◌, ◌/◌, ◌^◌, ◌<◌, ◌≤◌, eqb, length};
 ghost use Rattle.x696.specs.Table.{row_width, row_kind, type_of};
 ghost use Rattle.x696.specs.TableCheck.{default_sound};
-ghost use Rattle.x696.specs.TableLaws.{SoundTable};
+ghost use Rattle.x696.specs.SoundTable.{SoundTable};
 ghost use Rattle.octets.specs.Presence.{set_bit};
 ghost use Rattle.writing.specs.Noted.{missing_at};
 ghost use Rattle.editing.specs.Splicing.{Spliced};

@@ -2,7 +2,7 @@
 ghost use Rattle.std.specs.Prelude.{◌≡◌, true, ◌/◌, ◌<◌, length};
 ghost use Rattle.x696.specs.Table.{row_width, type_of};
 ghost use Rattle.x696.specs.TableCheck.{default_sound};
-ghost use Rattle.x696.specs.TableLaws.{SoundTable};
+ghost use Rattle.x696.specs.SoundTable.{SoundTable};
 ghost use Rattle.encoding.specs.Measures.{ListAnswer};
 
 use pens::pen::Wrote;

@@ -13,7 +13,7 @@ use Rattle.x696.specs.Types.{Ty}
 use Rattle.x696.specs.Read.{message}
 use Rattle.x696.specs.Path.{child, child_at, through, onward, find_from, child_before}
 use Rattle.x696.specs.PresencePlace.{bits_before, preamble_start, bit_number}
-use Rattle.x696.specs.BeforeLaws.{before_step, start_step, number_step}
+use Rattle.x696.proofs.BeforeLaws.{before_step, start_step, number_step}
 use Rattle.x696.specs.Table.{type_of}
 use Rattle.octets.specs.declared.answers.Fault.{Fault}
 use Rattle.kinds.specs.Run.{number_of}

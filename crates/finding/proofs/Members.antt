@@ -7,14 +7,14 @@ use native.Mathlib.Omega.{arith}
 use native.Mathlib.Nat.{add-zero, sub-zero}
 use lib.ListN.{get_or}
 use Rattle.x696.specs.Outcome.{Outcome, refused, got, next}
-use Rattle.x696.specs.OutcomeLaws.{next-inv, refused_never}
+use Rattle.x696.proofs.OutcomeLaws.{next-inv, refused_never}
 use Rattle.x696.specs.Digits.{Below}
-use Rattle.x696.specs.DigitsLaws.{below_split}
+use Rattle.x696.proofs.DigitsLaws.{below_split}
 use Rattle.x696.specs.Value.{Val, Vals, no_values, value, value_count}
 use Rattle.x696.specs.Types.{Ty, presence_count, mark_count}
 use Rattle.x696.specs.Encode.{each, encode, encode_components, own_octets}
 use Rattle.x696.specs.Read.{Message, times, read, read_component}
-use Rattle.x696.specs.Sound.{ComponentReadAs, component_sound_lem, sound}
+use Rattle.x696.proofs.Sound.{ComponentReadAs, component_sound_lem, sound}
 use Rattle.x696.specs.Path.{child, component_at, element_at, components_before, elements_before}
 use Rattle.x696.specs.PresencePlace.{marks_before}
 use Rattle.x696.specs.Operations.{node_limit}

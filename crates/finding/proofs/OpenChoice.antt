@@ -8,24 +8,24 @@ use native.Mathlib.Omega.{arith}
 use native.Mathlib.Nat.{add-zero}
 use lib.ListN.{length, drop, length-append, length-drop}
 use Rattle.x696.specs.Outcome.{Outcome, got, next, choose}
-use Rattle.x696.specs.OutcomeLaws.{refused_never}
+use Rattle.x696.proofs.OutcomeLaws.{refused_never}
 use Rattle.x696.specs.Digits.{Below}
 use Rattle.x696.specs.Tag.{tag, tag_octets, read_tag}
-use Rattle.x696.specs.TagLaws.{tag_sound}
+use Rattle.x696.proofs.TagLaws.{tag_sound}
 use Rattle.x696.specs.Value.{Val, node, Vals, no_values, value, only}
 use Rattle.x696.specs.Types.{Ty, choice, Items, no_items, item, item_count, alternative, tag_at}
 use Rattle.x696.specs.Read.{Message, message, times, component_by, read, read_component}
 use Rattle.x696.specs.Path.{no_child, child, alternative_at, child_at, child_before}
 use Rattle.x696.specs.PresencePlace.{bits_before}
-use Rattle.x696.specs.Sound.{alternative_tag}
+use Rattle.x696.proofs.Sound.{alternative_tag}
 use Rattle.x696.specs.Operations.{node_limit}
 use Rattle.x696.specs.Table.{row_kind, row_first, row_count, tag_number, alternative_row, items_from, alternatives_from}
 use Rattle.x696.specs.Table.{type_of}
 use Rattle.x696.specs.TableFault.{row_sound}
-use Rattle.x696.specs.TableTests.{Each}
-use Rattle.x696.specs.TableTags.{alternatives_count}
-use Rattle.x696.specs.TableRows.{choice_row}
-use Rattle.x696.specs.TableKinds.{choice_type}
+use Rattle.x696.specs.SoundTable.{Each}
+use Rattle.x696.proofs.TableTags.{alternatives_count}
+use Rattle.x696.proofs.TableRows.{choice_row}
+use Rattle.x696.proofs.TableKinds.{choice_type}
 use Rattle.octets.specs.Presence.{bit_at}
 use Rattle.octets.specs.Answers.{capped, TagAnswer}
 use Rattle.octets.specs.declared.answers.Tag.{Tag}

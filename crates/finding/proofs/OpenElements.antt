@@ -8,10 +8,10 @@ use native.Mathlib.Omega.{arith}
 use native.Mathlib.Numerals.{add-one}
 use lib.ListN.{length, drop, length-append, length-drop}
 use Rattle.x696.specs.Outcome.{Outcome, refused, got, next, choose}
-use Rattle.x696.specs.OutcomeLaws.{next-inv}
+use Rattle.x696.proofs.OutcomeLaws.{next-inv}
 use Rattle.x696.specs.Digits.{Below}
 use Rattle.x696.specs.Variable.{variable_unsigned, read_unsigned}
-use Rattle.x696.specs.VariableLaws.{unsigned_sound}
+use Rattle.x696.proofs.VariableLaws.{unsigned_sound}
 use Rattle.x696.specs.Value.{Val, node, Vals, no_values, value, value_count}
 use Rattle.x696.specs.Types.{Ty, sequence_of}
 use Rattle.x696.specs.Encode.{each, encode}
@@ -21,8 +21,8 @@ use Rattle.x696.specs.PresencePlace.{bits_before}
 use Rattle.x696.specs.Operations.{node_limit}
 use Rattle.x696.specs.Table.{row_kind, row_first, component_row, type_of}
 use Rattle.x696.specs.TableFault.{row_sound}
-use Rattle.x696.specs.TableRows.{sequence_of_row}
-use Rattle.x696.specs.TableKinds.{sequence_of_type}
+use Rattle.x696.proofs.TableRows.{sequence_of_row}
+use Rattle.x696.proofs.TableKinds.{sequence_of_type}
 use Rattle.octets.specs.Presence.{bit_at}
 use Rattle.octets.specs.Answers.{QuantityAnswer}
 use Rattle.octets.specs.declared.answers.Quantity.{Quantity}

@@ -10,7 +10,7 @@ use lib.ListN.{length, drop, length-append, length-drop}
 use Rattle.x696.specs.Outcome.{Outcome, refused, got, next, choose}
 use Rattle.x696.specs.Digits.{Below}
 use Rattle.x696.specs.Bits.{bit_octets, preamble, read_preamble}
-use Rattle.x696.specs.BitsLaws.{preamble_length}
+use Rattle.x696.proofs.BitsLaws.{preamble_length}
 use Rattle.x696.specs.Value.{Val, node, Vals, no_values, value}
 use Rattle.x696.specs.Types.{Ty, sequence, presence_count, mark_count}
 use Rattle.x696.specs.Encode.{presence, encode_components}
@@ -21,8 +21,8 @@ use Rattle.x696.specs.Operations.{node_limit}
 use Rattle.x696.specs.Table.{row_kind, row_first, row_count, item_width, component_row, component_mark, component_default}
 use Rattle.x696.specs.Table.{items_from, components_from, type_of}
 use Rattle.x696.specs.TableFault.{row_sound}
-use Rattle.x696.specs.TableRows.{sequence_row}
-use Rattle.x696.specs.TableKinds.{sequence_type}
+use Rattle.x696.proofs.TableRows.{sequence_row}
+use Rattle.x696.proofs.TableKinds.{sequence_type}
 use Rattle.octets.specs.Presence.{bit_at}
 use Rattle.octets.proofs.Answered.{next_refused}
 use Rattle.octets.proofs.Octets.{below_drop}

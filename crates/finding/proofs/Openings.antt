@@ -9,15 +9,15 @@ use lib.ListN.{length, drop}
 use lib.Dec.{eqb}
 use borrow.Author.Tests.{ne_eqb, eqb-true, eqb-false}
 use Rattle.x696.specs.Outcome.{Outcome, refused, got, next, must, choose}
-use Rattle.x696.specs.OutcomeLaws.{next-inv, must-inv, refused_never, cases}
+use Rattle.x696.proofs.OutcomeLaws.{next-inv, must-inv, refused_never, cases}
 use Rattle.x696.specs.Value.{Val, Vals, value, same}
 use Rattle.x696.specs.Types.{Ty, missing}
 use Rattle.x696.specs.Read.{Message, message, times, counted, read, read_component}
 use Rattle.x696.specs.Path.{no_child, child_at}
-use Rattle.x696.specs.ChildLaws.{missing_childless, with_child_differs}
+use Rattle.x696.proofs.ChildLaws.{missing_childless, with_child_differs}
 use Rattle.x696.specs.Operations.{node_limit}
 use Rattle.x696.specs.Table.{row_kind, type_of}
-use Rattle.x696.specs.TableKinds.{leaf_type}
+use Rattle.x696.proofs.TableKinds.{leaf_type}
 use Rattle.octets.specs.Presence.{bit_at}
 use Rattle.octets.specs.Answers.{fault}
 use Rattle.octets.specs.declared.answers.Fault.{Fault}

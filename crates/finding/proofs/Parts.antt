@@ -9,15 +9,15 @@ use lib.ListN.{length, drop}
 use lib.Dec.{eqb}
 use borrow.Author.Tests.{le-leb, lt-leb, eqb-true, eqb-false}
 use Rattle.x696.specs.Outcome.{Outcome, refused, got, next, must, choose}
-use Rattle.x696.specs.OutcomeLaws.{cases, cases_lt}
+use Rattle.x696.proofs.OutcomeLaws.{cases, cases_lt}
 use Rattle.x696.specs.Digits.{Below}
 use Rattle.x696.specs.Value.{Val, Vals, value, same}
 use Rattle.x696.specs.Types.{Ty, presence_count, missing}
 use Rattle.x696.specs.Read.{Message, message, counted, component_by, read, read_component}
-use Rattle.x696.specs.Sound.{sound}
+use Rattle.x696.proofs.Sound.{sound}
 use Rattle.x696.specs.Operations.{node_limit}
 use Rattle.x696.specs.Table.{component_row, component_mark, component_default, type_of}
-use Rattle.x696.specs.TableRows.{Component}
+use Rattle.x696.specs.SoundTable.{Component}
 use Rattle.octets.specs.Presence.{bit_at}
 use Rattle.octets.specs.Answers.{fault}
 use Rattle.octets.specs.declared.answers.Fault.{Fault}

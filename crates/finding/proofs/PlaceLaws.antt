@@ -12,12 +12,12 @@ use Rattle.x696.specs.Value.{Val}
 use Rattle.x696.specs.Types.{Ty}
 use Rattle.x696.specs.Encode.{encode, own_octets}
 use Rattle.x696.specs.Read.{Message, message, component_by, read, read_component}
-use Rattle.x696.specs.Sound.{sound}
+use Rattle.x696.proofs.Sound.{sound}
 use Rattle.x696.specs.Path.{nowhere, find_from, find, octets_before}
-use Rattle.x696.specs.Locality.{own_stands}
+use Rattle.x696.proofs.Locality.{own_stands}
 use Rattle.x696.specs.Reply.{Answer, refusal, done, refusal_reply, then, in_part}
 use Rattle.x696.specs.Table.{row_width, type_of}
-use Rattle.x696.specs.TableLaws.{SoundTable}
+use Rattle.x696.specs.SoundTable.{SoundTable}
 use Rattle.x696.specs.Operations.{node_limit, octet_limit, asked, read_message}
 use Rattle.x696.specs.Editing.{Place, place_of, place_in}
 use Rattle.table.specs.Replies.{as_reply}

@@ -11,7 +11,7 @@ use borrow.Author.Tests.{ne_eqb}
 use Rattle.x696.specs.Digits.{Below}
 use Rattle.x696.specs.Real.{binary32, binary64}
 use Rattle.x696.specs.Value.{Val, size, same}
-use Rattle.x696.specs.ValueLaws.{same_refl}
+use Rattle.x696.proofs.ValueLaws.{same_refl}
 use Rattle.x696.specs.Leaf.{boolean, null, integer, enumerated, real, octet_string, bit_string, visible_string}
 use Rattle.x696.specs.Leaf.{leaf_kind, real_kind}
 use Rattle.x696.specs.Types.{Ty, leaf, sequence, sequence_of, choice, kind_of, presence_count, missing}
@@ -19,7 +19,7 @@ use Rattle.x696.specs.Fits.{Fits, leaf_fits, sequence_fits, sequence_of_fits, ch
 use Rattle.x696.specs.Fits.{left_out}
 use Rattle.x696.specs.Encode.{bit, presence_bits, own_octets}
 use Rattle.x696.specs.Read.{message}
-use Rattle.x696.specs.Sound.{ComponentReadAs}
+use Rattle.x696.proofs.Sound.{ComponentReadAs}
 use Rattle.x696.specs.Operations.{node_limit}
 use Rattle.x696.specs.Path.{find_from, octets_before}
 use Rattle.x696.specs.Table.{row_width, type_of}

@@ -9,7 +9,7 @@ use Rattle.x696.specs.Encode.{encode}
 use Rattle.x696.specs.Path.{find}
 use Rattle.x696.specs.Reply.{Answer, done, then, in_part}
 use Rattle.x696.specs.Table.{row_width, type_of}
-use Rattle.x696.specs.TableLaws.{SoundTable}
+use Rattle.x696.specs.SoundTable.{SoundTable}
 use Rattle.x696.specs.Operations.{node_limit, octet_limit, read_message}
 use Rattle.x696.specs.Editing.{Place, place_of}
 use Rattle.table.specs.declared.reply.Reply.{Reply}

@@ -2,7 +2,7 @@
 ghost use Rattle.std.specs.Prelude.{ℕ, ◌+◌, ◌/◌, ◌<◌, ◌≤◌, ◌≡◌, length, drop};
 ghost use Rattle.x696.specs.Read.{message};
 ghost use Rattle.x696.specs.Table.{row_width};
-ghost use Rattle.x696.specs.TableLaws.{SoundTable};
+ghost use Rattle.x696.specs.SoundTable.{SoundTable};
 ghost use Rattle.finding.specs.Passing.{Passed, none};
 ghost use Rattle.finding.specs.Leading.{behind_of, BehindFits};
 

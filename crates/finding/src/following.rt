@@ -3,7 +3,7 @@
 // anywhere comes before PATH.
 ghost use Rattle.std.specs.Prelude.{◌≡◌, ◌&&◌, not, ℕ, ◌+◌, ◌/◌, ◌<◌, ◌≤◌, length, drop, get_or, eqb};
 ghost use Rattle.x696.specs.Table.{row_width, type_of};
-ghost use Rattle.x696.specs.TableLaws.{SoundTable};
+ghost use Rattle.x696.specs.SoundTable.{SoundTable};
 ghost use Rattle.octets.specs.Presence.{bit_at};
 ghost use Rattle.finding.specs.Passing.{Fitting};
 ghost use Rattle.finding.specs.Following.{Childless, Follows};

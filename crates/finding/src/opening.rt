@@ -3,7 +3,7 @@ ghost use Rattle.std.specs.Prelude.{◌≡◌, ℕ, ◌+◌, ◌/◌, ◌<◌, �
 ghost use Rattle.x696.specs.Read.{message, read_component};
 ghost use Rattle.x696.specs.Operations.{node_limit};
 ghost use Rattle.x696.specs.Table.{row_width, row_kind, type_of};
-ghost use Rattle.x696.specs.TableLaws.{SoundTable};
+ghost use Rattle.x696.specs.SoundTable.{SoundTable};
 ghost use Rattle.octets.specs.Answers.{fault};
 ghost use Rattle.octets.specs.Presence.{bit_at};
 ghost use Rattle.kinds.specs.Run.{inside_at};

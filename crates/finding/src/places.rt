@@ -2,7 +2,7 @@
 // reading order; LEFT OVER; PATH.
 ghost use Rattle.std.specs.Prelude.{◌≡◌, ◌/◌, ◌<◌, length};
 ghost use Rattle.x696.specs.Table.{row_width, type_of};
-ghost use Rattle.x696.specs.TableLaws.{SoundTable};
+ghost use Rattle.x696.specs.SoundTable.{SoundTable};
 ghost use Rattle.x696.specs.Reply.{refusal_reply};
 ghost use Rattle.x696.specs.Editing.{place_in};
 ghost use Rattle.table.specs.Replies.{as_reply};

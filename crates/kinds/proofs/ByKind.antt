@@ -12,8 +12,8 @@ use Rattle.x696.specs.Leaf.{Leaf, boolean, null, integer, enumerated, real, octe
 use Rattle.x696.specs.Types.{leaf}
 use Rattle.x696.specs.Table.{row_kind, row_flags, row_a, row_b, row_first, row_count, item_width, numbers_from, type_by, type_of}
 use Rattle.x696.specs.TableFault.{row_sound}
-use Rattle.x696.specs.TableLaws.{type_of_row}
-use Rattle.x696.specs.TableRows.{kind_known, enumerated_row}
+use Rattle.x696.proofs.TableLaws.{type_of_row}
+use Rattle.x696.proofs.TableRows.{kind_known, enumerated_row}
 use Rattle.table.specs.Orders.{Ascends}
 use Rattle.kinds.specs.Run.{ScalarAnswer, Ran, inside_at, leaf_at}
 use Rattle.kinds.specs.declared.cursor.Read.{Read}

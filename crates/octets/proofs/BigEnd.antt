@@ -12,7 +12,7 @@ use lib.Arith.{digits_lt}
 use lib.Pow.{pow-add, pow_mono, shr-shr}
 use borrow.Author.Tests.{lt-ltb, le-ltb}
 use Rattle.x696.specs.Digits.{digits, from_digits}
-use Rattle.x696.specs.DigitsLaws.{digits_length, mul_step}
+use Rattle.x696.proofs.DigitsLaws.{digits_length, mul_step}
 use Rattle.octets.proofs.DigitsAt.{from_digits_snoc}
 use Rattle.x696.specs.Fewest.{word_in}
 use Rattle.x696.specs.Integer.{rank}

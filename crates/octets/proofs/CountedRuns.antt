@@ -11,10 +11,10 @@ use lib.Seq.{drop-cons, drop-drop, length-take-le}
 use lib.Dec.{leb}
 use borrow.Author.Tests.{lt-ltb, le-ltb, le-leb, lt-leb}
 use Rattle.x696.specs.Outcome.{Outcome, refused, got, next, must, choose}
-use Rattle.x696.specs.OutcomeLaws.{cases_lt}
+use Rattle.x696.proofs.OutcomeLaws.{cases_lt}
 use Rattle.x696.specs.Digits.{from_digits}
 use Rattle.x696.specs.Fewest.{is_fewest}
-use Rattle.x696.specs.FewestLaws.{fewest_least, is_fewest_length}
+use Rattle.x696.proofs.FewestLaws.{fewest_least, is_fewest_length}
 use Rattle.x696.specs.Length.{octet, run, read_length, read_run}
 use Rattle.octets.specs.Answers.{long_run}
 

@@ -11,10 +11,10 @@ use lib.Dec.{ltb, leb}
 use lib.Pow.{pow_mono}
 use borrow.Author.Tests.{lt-ltb, le-ltb, le-leb, lt-leb, leb-false, eqb-true, ne_eqb}
 use Rattle.x696.specs.Outcome.{Outcome, refused, got, next, must, choose}
-use Rattle.x696.specs.OutcomeLaws.{cases, cases_lt}
+use Rattle.x696.proofs.OutcomeLaws.{cases, cases_lt}
 use Rattle.x696.specs.Digits.{from_digits}
 use Rattle.x696.specs.Fewest.{fewest, is_fewest, magnitude_in, is_fewest_signed, word_in, signed_word}
-use Rattle.x696.specs.FewestLaws.{fewest_pos, fewest_least, is_fewest_length}
+use Rattle.x696.proofs.FewestLaws.{fewest_pos, fewest_least, is_fewest_length}
 use Rattle.x696.specs.Length.{read_run}
 use Rattle.x696.specs.Variable.{read_unsigned, read_signed}
 use Rattle.x696.specs.Enumerated.{read_enumerated}

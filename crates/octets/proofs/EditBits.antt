@@ -10,9 +10,9 @@ use native.Mathlib.Omega.{arith}
 use lib.ListN.{length, set, take, drop, length-append, get_or-append}
 use lib.Seq.{set-append_left, get_or-append-add}
 use Rattle.x696.specs.Digits.{Below}
-use Rattle.x696.specs.DigitsLaws.{below_parts}
+use Rattle.x696.proofs.DigitsLaws.{below_parts}
 use Rattle.x696.specs.Bits.{preamble}
-use Rattle.x696.specs.BitsLaws.{preamble_length}
+use Rattle.x696.proofs.BitsLaws.{preamble_length}
 use Rattle.x696.specs.Value.{Val, Vals, no_values, value, only, same}
 use Rattle.x696.specs.Types.{Ty, Items, no_items, item, mark_count, missing}
 use Rattle.x696.specs.Fits.{Fits, leaf_fits, sequence_fits, sequence_of_fits, choice_fits}
@@ -21,14 +21,14 @@ use Rattle.x696.specs.Encode.{bit, presence_bits, presence, encode, own_octets}
 use Rattle.x696.specs.Path.{child, component_at, element_at, alternative_at, child_at, found, find_from, find}
 use Rattle.x696.specs.Path.{replace_at, replace_child, child_value, replace, components_before, child_before, octets_before}
 use Rattle.x696.specs.PresencePlace.{marks_before, bits_before, preamble_start, bit_number}
-use Rattle.x696.specs.Complete.{bit_lt, presence_length, presence_bits_lem}
-use Rattle.x696.specs.ChildLaws.{no_component_lem, child_value_lem, child_replaced}
-use Rattle.x696.specs.ChildFits.{with_child_fits, child_fits}
-use Rattle.x696.specs.ChildOctets.{bits_hold, with_child_bits}
-use Rattle.x696.specs.PathLaws.{same-found, step-inv}
-use Rattle.x696.specs.BeforeLaws.{components_before_kept, presence_same, child_before_kept}
-use Rattle.x696.specs.BeforeLaws.{before_step, start_step, number_step, before_kept}
-use Rattle.x696.specs.Locality.{before_part, spliced}
+use Rattle.x696.proofs.Complete.{bit_lt, presence_length, presence_bits_lem}
+use Rattle.x696.proofs.ChildLaws.{no_component_lem, child_value_lem, child_replaced}
+use Rattle.x696.proofs.ChildFits.{with_child_fits, child_fits}
+use Rattle.x696.proofs.ChildOctets.{bits_hold, with_child_bits}
+use Rattle.x696.proofs.PathLaws.{same-found, step-inv}
+use Rattle.x696.proofs.BeforeLaws.{components_before_kept, presence_same, child_before_kept}
+use Rattle.x696.proofs.BeforeLaws.{before_step, start_step, number_step, before_kept}
+use Rattle.x696.proofs.Locality.{before_part, spliced}
 use Rattle.octets.specs.Presence.{set_bit}
 use Rattle.octets.proofs.PresenceBits.{preamble_set}
 

@@ -14,9 +14,9 @@ use Rattle.x696.specs.Table.{type_of}
 use Rattle.x696.specs.Path.{found, find, replace, octets_before}
 use Rattle.x696.specs.PresencePlace.{preamble_start, bit_number, presence_bit}
 use Rattle.x696.specs.Edits.{Edits}
-use Rattle.x696.specs.PathLaws.{replace_fits, find_replaced, replace_same}
-use Rattle.x696.specs.BeforeLaws.{before_kept, presence_place_kept}
-use Rattle.x696.specs.Locality.{own_stands, parts_replaced}
+use Rattle.x696.proofs.PathLaws.{replace_fits, find_replaced, replace_same}
+use Rattle.x696.proofs.BeforeLaws.{before_kept, presence_place_kept}
+use Rattle.x696.proofs.Locality.{own_stands, parts_replaced}
 use Rattle.octets.specs.Presence.{bit_at, set_bit}
 use Rattle.octets.specs.Touched.{OneBit, Touched}
 use Rattle.octets.proofs.OneBit.{set_bit_length, set_bit_own, set_bit_others}

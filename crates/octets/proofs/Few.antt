@@ -11,11 +11,11 @@ use lib.ListN.{length}
 use lib.Dec.{eqb}
 use lib.Pow.{pow-add}
 use borrow.Author.Tests.{lt-ltb, le-ltb, eq-eqb, ne_eqb, eqb-true, eqb-false}
-use Rattle.x696.specs.OutcomeLaws.{cases, cases_lt}
+use Rattle.x696.proofs.OutcomeLaws.{cases, cases_lt}
 use Rattle.x696.specs.Digits.{from_digits, Below}
-use Rattle.x696.specs.DigitsLaws.{mul_step, from_digits_lt}
+use Rattle.x696.proofs.DigitsLaws.{mul_step, from_digits_lt}
 use Rattle.x696.specs.Fewest.{fewest, magnitude, fewest_signed, magnitude_in, is_fewest_signed}
-use Rattle.x696.specs.FewestLaws.{fewest_is, fewest_pos, fewest_least}
+use Rattle.x696.proofs.FewestLaws.{fewest_is, fewest_pos, fewest_least}
 
 -- from 2 ^ (8 * j) on, and from 0 on for j = 0, up to 2 ^ (8 * (j + 1)) there are j + 1
 pub fewest_between : (j n : ℕ) → (1 ≤ j → 2 ^ (8 * j) ≤ n) → n < 2 ^ (8 * suc j) → suc j ≡ fewest 8 n

@@ -11,11 +11,11 @@ use lib.Seq.{drop-cons}
 use lib.Dec.{ltb, eqb}
 use borrow.Author.Tests.{lt-ltb, le-ltb, eq-eqb, ne_eqb}
 use Rattle.x696.specs.Outcome.{Outcome, refused, got, next, choose}
-use Rattle.x696.specs.OutcomeLaws.{cases_lt}
+use Rattle.x696.proofs.OutcomeLaws.{cases_lt}
 use Rattle.x696.specs.Digits.{from_digits, Below}
-use Rattle.x696.specs.DigitsLaws.{below_append}
+use Rattle.x696.proofs.DigitsLaws.{below_append}
 use Rattle.x696.specs.Fewest.{is_fewest}
-use Rattle.x696.specs.FewestLaws.{is_fewest_one, is_fewest_more}
+use Rattle.x696.proofs.FewestLaws.{is_fewest_one, is_fewest_more}
 use Rattle.x696.specs.Tag.{read_groups}
 use Rattle.octets.specs.Answers.{capped}
 use Rattle.octets.proofs.DigitsAt.{from_digits_snoc}

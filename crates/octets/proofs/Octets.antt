@@ -5,7 +5,7 @@ use mathlib.Core.List.{List, [], ◌∷◌}
 use Prim.Native.Nat.{ℕ, suc, ◌^◌, ◌<◌}
 use lib.ListN.{get_or, take, drop, take-append-drop}
 use Rattle.x696.specs.Digits.{Below}
-use Rattle.x696.specs.DigitsLaws.{below_split}
+use Rattle.x696.proofs.DigitsLaws.{below_split}
 
 -- a list whose elements by position are octets (or words) is a list of them
 pub below_known : (w : ℕ) (s : List ℕ) → ((i : ℕ) → get_or s i 0 < 2 ^ w) → Below w s

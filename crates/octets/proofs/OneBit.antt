@@ -12,9 +12,9 @@ use lib.Seq.{set_out, get_or-set_same, get_or-set_other}
 use lib.Dec.{eqb}
 use lib.Pow.{high, low, field, split, shr-shr, mod-mod-pow, pow_pos}
 use borrow.Author.Tests.{eqb-true, eqb-false}
-use Rattle.x696.specs.OutcomeLaws.{cases, cases_lt}
+use Rattle.x696.proofs.OutcomeLaws.{cases, cases_lt}
 use Rattle.x696.specs.Encode.{bit}
-use Rattle.x696.specs.Complete.{bit_lt}
+use Rattle.x696.proofs.Complete.{bit_lt}
 use Rattle.octets.specs.Presence.{bit_at, with_bit, set_bit}
 use Rattle.octets.proofs.Weights.{with_bit_is}
 

@@ -10,16 +10,16 @@ use lib.ListN.{length, get_or, set, drop, replicate, get_or-append}
 use lib.Seq.{get_or-drop, set_at, get_or_at}
 use lib.Pow.{pow-add, high, low, field, mod-pow-add, mod-mod-pow, shr-shr, shl_lt, shr_lt}
 use Rattle.x696.specs.Outcome.{got}
-use Rattle.x696.specs.OutcomeLaws.{next-inv, must-inv}
+use Rattle.x696.proofs.OutcomeLaws.{next-inv, must-inv}
 use Rattle.x696.specs.Digits.{digits, from_digits, Below}
-use Rattle.x696.specs.DigitsLaws.{digits_length, digits_low, digits_from_digits, from_digits_lt, below_split}
-use Rattle.x696.specs.LengthLaws.{run_sound}
+use Rattle.x696.proofs.DigitsLaws.{digits_length, digits_low, digits_from_digits, from_digits_lt, below_split}
+use Rattle.x696.proofs.LengthLaws.{run_sound}
 use Rattle.x696.specs.Bits.{bit_octets, unused_bits, preamble, read_preamble}
 use Rattle.x696.specs.Encode.{bit}
 use Rattle.octets.specs.Presence.{bit_at, with_bit}
 use Rattle.octets.proofs.Octets.{below_drop}
 use Rattle.octets.proofs.DigitsAt.{from_digits_append, digits_at, digits_around}
-use Rattle.x696.specs.Complete.{bit_lt}
+use Rattle.x696.proofs.Complete.{bit_lt}
 use Rattle.octets.proofs.Weights.{with_bit_is}
 
 -- ---- the bits that are read

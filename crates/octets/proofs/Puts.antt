@@ -10,7 +10,7 @@ use lib.Seq.{sets}
 use borrow.Author.Tests.{lt-ltb, le-ltb}
 use Rattle.x696.specs.Outcome.{choose}
 use Rattle.x696.specs.Digits.{digits}
-use Rattle.x696.specs.DigitsLaws.{digits_length}
+use Rattle.x696.proofs.DigitsLaws.{digits_length}
 use Rattle.x696.specs.Fewest.{fewest, unsigned_octets, fewest_signed, signed_octets}
 use Rattle.x696.specs.Length.{length_octets}
 use Rattle.x696.specs.Variable.{variable_unsigned, variable_signed}

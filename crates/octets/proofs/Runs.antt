@@ -13,7 +13,7 @@ use lib.Dec.{ltb, eqb}
 use borrow.Author.Tests.{lt-ltb, ne_eqb}
 use Rattle.x696.specs.Digits.{Below}
 use Rattle.x696.specs.Fewest.{is_fewest, is_fewest_signed}
-use Rattle.x696.specs.FewestLaws.{is_fewest_none, is_fewest_one, is_fewest_more}
+use Rattle.x696.proofs.FewestLaws.{is_fewest_none, is_fewest_one, is_fewest_more}
 use Rattle.octets.proofs.Octets.{below_drop, below_take}
 use Rattle.octets.proofs.Few.{is_fewest_signed_none, is_fewest_signed_one, is_fewest_signed_plus, is_fewest_signed_minus}
 

@@ -10,7 +10,7 @@ use native.Mathlib.Omega.{arith}
 use lib.ListN.{length, get_or, set, take, drop, length-drop}
 use lib.Seq.{sets, sets-eq, set_out, set_comm, take-add, take-append_seam, drop-drop, drop-cons, length-take-le}
 use lib.Seq.{length-sets}
-use Rattle.x696.specs.OutcomeLaws.{cases_lt}
+use Rattle.x696.proofs.OutcomeLaws.{cases_lt}
 
 -- one run after another
 pub sets_append : (vs ws l : List ℕ) (i : ℕ) → sets (sets l i vs) (i + length vs) ws ≡ sets l i (vs ++ ws)

@@ -14,7 +14,7 @@ use borrow.Author.Tests.{lt-ltb, le-ltb, le-leb, lt-leb, eq-eqb, ne_eqb}
 use Rattle.x696.specs.Outcome.{Outcome, refused, got, next, must, choose}
 use Rattle.x696.specs.Digits.{digits, from_digits}
 use Rattle.x696.specs.Fewest.{fewest}
-use Rattle.x696.specs.FewestLaws.{fewest_is}
+use Rattle.x696.proofs.FewestLaws.{fewest_is}
 use Rattle.x696.specs.Length.{octet}
 use Rattle.x696.specs.Tag.{Tag as TagOf, tag, group_octets, tag_octets, read_tag}
 use Rattle.octets.specs.Answers.{TagAnswer, TagFound, tag_read, fault, long_tag, capped}

@@ -16,7 +16,7 @@ use Rattle.x696.specs.Digits.{from_digits}
 use Rattle.x696.specs.Bits.{low_bits_clear}
 use Rattle.x696.specs.Encode.{bit}
 use Rattle.octets.specs.Presence.{with_bit}
-use Rattle.x696.specs.Complete.{bit_lt}
+use Rattle.x696.proofs.Complete.{bit_lt}
 use Rattle.octets.proofs.DigitsAt.{from_digits_snoc}
 
 -- the last of eight cases

@@ -8,7 +8,7 @@ use Rattle.x696.specs.Reply.{done_reply}
 use Rattle.x696.specs.Operations.{Decoded, Written, decode, encode_list, over}
 use Rattle.x696.specs.Usable.{Usable}
 use Rattle.x696.specs.Result.{list_of, contents_in, result_of}
-use Rattle.x696.specs.RoundTrip.{encode_decoded, decode_encoded, validate_foretells, measure_foretells}
+use Rattle.x696.proofs.RoundTrip.{encode_decoded, decode_encoded, validate_foretells, measure_foretells}
 use Rattle.table.specs.Replies.{as_reply}
 use Rattle.table.specs.declared.reply.Reply.{Reply}
 use Rattle.oer.specs.Promises.{Validates, Decodes, Measures, Encodes}

@@ -13,8 +13,8 @@ use Rattle.x696.specs.Operations.{check, validate, decode, measure, encode_list}
 use Rattle.x696.specs.Editing.{edit, read_setting, show_text}
 use Rattle.x696.specs.RefusalTable.{◌or◌, OfTable, OfMessage, OfList, OfPath, ManyNodes, LongResult, NoRoom}
 use Rattle.x696.specs.Replying.{Asking, Answers, Replies, PastKept, PastListKept}
-use Rattle.x696.specs.LentLaws as lent
-use Rattle.x696.specs.ReplyLaws as replies
+use Rattle.x696.proofs.LentLaws as lent
+use Rattle.x696.proofs.ReplyLaws as replies
 
 -- check a table: DONE, or 1, or 2 at one of its rows
 pub check_replies : (rows items : List ℕ) → Replies (OfTable (length rows / row_width)) [] (check rows items) []

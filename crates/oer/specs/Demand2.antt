@@ -14,9 +14,9 @@ use Rattle.x696.specs.Reply.{done_reply}
 use Rattle.x696.specs.Operations.{validate, decode, measure, encode_list, over}
 use Rattle.x696.specs.Usable.{Usable, Within, Room, decoded_as, written_as}
 use Rattle.x696.specs.Result.{list_of, contents_in, result_of}
-use Rattle.x696.specs.Unique.{encode_prefix_free}
-use Rattle.x696.specs.OperationLaws as laws
-use Rattle.x696.specs.RoundTrip as trip
+use Rattle.x696.proofs.Unique.{encode_prefix_free}
+use Rattle.x696.proofs.OperationLaws as laws
+use Rattle.x696.proofs.RoundTrip as trip
 
 module _ (rows items : List ℕ) (row : ℕ) (usable : Usable rows items row) where
   abbrev its : Ty

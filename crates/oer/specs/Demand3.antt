@@ -21,12 +21,12 @@ use Rattle.x696.specs.Result.{is_done, result_of, decoded}
 use Rattle.x696.specs.Edits.{Edits}
 use Rattle.x696.specs.Component.{Component, Kept}
 use Rattle.x696.specs.LongerRoad.{longer_road, SameResult}
-use Rattle.x696.specs.ApartLaws.{apart_iff}
-use Rattle.x696.specs.EditLaws.{Fine, edit_done, edit_gives, edit_same, edit_undone, edit_validates}
-use Rattle.x696.specs.LongerRoadLaws.{longer_road_lem}
-use Rattle.x696.specs.ComponentLaws.{component_found, component_order, component_kept}
-use Rattle.x696.specs.ReadingLaws.{setting_decoded, setting_found, setting_edited, setting_kept}
-use Rattle.x696.specs.ReadingLaws.{text_shown, text_else, text_kept}
+use Rattle.x696.proofs.ApartLaws.{apart_iff}
+use Rattle.x696.proofs.EditLaws.{Fine, edit_done, edit_gives, edit_same, edit_undone, edit_validates}
+use Rattle.x696.proofs.LongerRoadLaws.{longer_road_lem}
+use Rattle.x696.proofs.ComponentLaws.{component_found, component_order, component_kept}
+use Rattle.x696.proofs.ReadingLaws.{setting_decoded, setting_found, setting_edited, setting_kept}
+use Rattle.x696.proofs.ReadingLaws.{text_shown, text_else, text_kept}
 use Rattle.octets.specs.Presence.{bit_at}
 use Rattle.octets.specs.Touched.{Touched}
 use Rattle.octets.proofs.EditTouches.{edit_touches, presence_edited}

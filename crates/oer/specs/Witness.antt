@@ -4,7 +4,7 @@
 -- Assumes nothing.
 use Rattle.std.specs.Prelude.{◌≡◌, refl, Bool, true, ◌&&◌, List, [], ◌∷◌, ℕ, ◌^◌, replicate, ltb}
 use Rattle.std.proofs.Common.{arith, ltb-true}
-use Rattle.x696.specs.OutcomeLaws.{and_both}
+use Rattle.x696.proofs.OutcomeLaws.{and_both}
 use Rattle.x696.specs.Digits.{Below}
 use Rattle.x696.specs.Value.{Val, node, no_values, value}
 use Rattle.x696.specs.Leaf.{boolean_fits, visible_fits}

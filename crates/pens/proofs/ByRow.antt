@@ -7,14 +7,14 @@ use Prim.Native.Nat.{ℕ, ◌<◌, ◌≤◌}
 use native.Mathlib.Omega.{arith}
 use lib.Dec.{eqb}
 use borrow.Author.Tests.{eqb-true, eqb-false}
-use Rattle.x696.specs.OutcomeLaws.{cases}
+use Rattle.x696.proofs.OutcomeLaws.{cases}
 use Rattle.x696.specs.Outcome.{choose}
 use Rattle.x696.specs.Leaf.{Leaf, integer}
 use Rattle.x696.specs.Types.{Ty, leaf}
 use Rattle.x696.specs.Table.{row_kind, row_flags, row_a, row_b, type_by, type_of}
 use Rattle.x696.specs.TableFault.{row_sound}
-use Rattle.x696.specs.TableLaws.{type_of_row}
-use Rattle.x696.specs.TableRows.{kind_known}
+use Rattle.x696.proofs.TableLaws.{type_of_row}
+use Rattle.x696.proofs.TableRows.{kind_known}
 use Rattle.kinds.proofs.ByKind.{integer_type, octets_type}
 use Rattle.pens.specs.Flat.{Numbered, RowNumbered, Headed, RowHeaded, text_leaf}
 use Rattle.pens.specs.declared.written.Written.{Written}

@@ -7,7 +7,7 @@ use Prim.Native.Nat.{ℕ, ◌+◌, ◌≤◌}
 use native.Mathlib.Omega.{arith}
 use lib.ListN.{length}
 use lib.Seq.{sets}
-use Rattle.x696.specs.OutcomeLaws.{cases}
+use Rattle.x696.proofs.OutcomeLaws.{cases}
 use Rattle.x696.specs.Digits.{digits}
 use Rattle.x696.specs.Variable.{variable_unsigned, variable_signed}
 use Rattle.x696.specs.Integer.{has_lower, has_upper, is_unsigned, unsigned_width, signed_width}

@@ -11,7 +11,7 @@ use lib.Dec.{ltb, eqb}
 use borrow.Author.Tests.{lt-ltb, le-ltb}
 use Rattle.x696.specs.Outcome.{refused, got, must}
 use Rattle.x696.specs.Digits.{digits}
-use Rattle.x696.specs.DigitsLaws.{digits_length}
+use Rattle.x696.proofs.DigitsLaws.{digits_length}
 use Rattle.x696.specs.Integer.{allowed, integer_form, form_octets}
 use Rattle.x696.specs.Enumerated.{listed, enumerated_octets}
 use Rattle.x696.specs.Real.{binary32, binary64, real_octets, real_allowed}

@@ -9,7 +9,7 @@ use lib.ListN.{length, set, take, drop, length-drop, length-append}
 use lib.Seq.{sets, drop-drop}
 use borrow.Author.Tests.{le-leb, lt-leb}
 use Rattle.x696.specs.Outcome.{refused, got, next, must, choose}
-use Rattle.x696.specs.OutcomeLaws.{cases}
+use Rattle.x696.proofs.OutcomeLaws.{cases}
 use Rattle.x696.specs.Length.{length_octets}
 use Rattle.x696.specs.Bits.{bit_octets, unused_bits, low_bits_clear}
 use Rattle.x696.specs.String.{fixed_size, size_allowed, visible, text_octets, bit_string_octets}

@@ -13,7 +13,7 @@ use lib.Seq.{sets}
 use lib.Dec.{ltb, eqb}
 use borrow.Author.Tests.{lt-ltb, le-ltb, ne_eqb}
 use Rattle.x696.specs.Outcome.{Outcome, refused, got, next, must}
-use Rattle.x696.specs.OutcomeLaws.{cases_lt}
+use Rattle.x696.proofs.OutcomeLaws.{cases_lt}
 use Rattle.x696.specs.Tag.{tag, read_tag}
 use Rattle.x696.specs.Value.{Val, node, only, node_width}
 use Rattle.x696.specs.Types.{Ty, Items, item_count, alternative}
@@ -22,10 +22,11 @@ use Rattle.x696.specs.Operations.{node_limit}
 use Rattle.x696.specs.Table.{row_kind, row_first, row_count, tag_number, alternative_row, items_from}
 use Rattle.x696.specs.Table.{alternatives_from, type_of}
 use Rattle.x696.specs.TableFault.{row_sound}
-use Rattle.x696.specs.TableTests.{Each, each_first, each_later}
-use Rattle.x696.specs.TableTags.{alternatives_count}
-use Rattle.x696.specs.TableRows.{choice_row}
-use Rattle.x696.specs.TableKinds.{choice_type}
+use Rattle.x696.specs.SoundTable.{Each}
+use Rattle.x696.proofs.TableTests.{each_first, each_later}
+use Rattle.x696.proofs.TableTags.{alternatives_count}
+use Rattle.x696.proofs.TableRows.{choice_row}
+use Rattle.x696.proofs.TableKinds.{choice_type}
 use Rattle.octets.specs.Answers.{capped, TagAnswer}
 use Rattle.octets.specs.declared.answers.Fault.{Fault}
 use Rattle.octets.specs.declared.answers.Tag.{Tag}

@@ -10,16 +10,16 @@ use lib.ListN.{length, drop, get_or}
 use lib.Dec.{eqb}
 use borrow.Author.Tests.{eq-eqb, eqb-true, eqb-false}
 use Rattle.x696.specs.Outcome.{Outcome, refused, got, next, must, choose}
-use Rattle.x696.specs.OutcomeLaws.{cases}
+use Rattle.x696.proofs.OutcomeLaws.{cases}
 use Rattle.x696.specs.Digits.{Below}
 use Rattle.x696.specs.Value.{Val, node, no_values, same}
 use Rattle.x696.specs.Types.{Ty, missing}
 use Rattle.x696.specs.Read.{Message, message, offset, counted, component_by, read, read_component}
-use Rattle.x696.specs.Sound.{sound}
+use Rattle.x696.proofs.Sound.{sound}
 use Rattle.x696.specs.Operations.{node_limit}
 use Rattle.x696.specs.Table.{row_kind, component_row, component_mark, component_default, type_of}
 use Rattle.x696.specs.TableCheck.{default_sound}
-use Rattle.x696.specs.TableRows.{Component}
+use Rattle.x696.specs.SoundTable.{Component}
 use Rattle.octets.specs.Presence.{bit_at}
 use Rattle.octets.proofs.Answered.{next_refused, next_got}
 use Rattle.octets.proofs.Octets.{below_drop}

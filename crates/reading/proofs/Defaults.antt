@@ -9,7 +9,7 @@ use native.Mathlib.Omega.{arith}
 use lib.Dec.{eqb}
 use borrow.Author.Tests.{eqb-true, ne_eqb}
 use Rattle.x696.specs.Outcome.{choose}
-use Rattle.x696.specs.OutcomeLaws.{choose-inv}
+use Rattle.x696.proofs.OutcomeLaws.{choose-inv}
 use Rattle.x696.specs.Real.{binary32, binary64}
 use Rattle.x696.specs.Value.{Val, node, Vals, no_values, value, absent, value_count, same_octets, same, sames}
 use Rattle.x696.specs.Leaf.{Leaf, boolean, null, integer, enumerated, real, octet_string, bit_string, visible_string}
@@ -18,7 +18,7 @@ use Rattle.x696.specs.Types.{Ty, leaf, sequence, sequence_of, choice, kind_of, m
 use Rattle.x696.specs.Fits.{Fits, leaf_fits, sequence_fits, sequence_of_fits, choice_fits}
 use Rattle.x696.specs.Table.{row_kind, type_by, type_of}
 use Rattle.x696.specs.TableCheck.{default_sound}
-use Rattle.x696.specs.TableLaws.{type_of_row}
+use Rattle.x696.proofs.TableLaws.{type_of_row}
 use Rattle.kinds.specs.Run.{number_of}
 
 -- ---- never ABSENT

@@ -14,7 +14,7 @@ use Rattle.x696.specs.Read.{Message, message, times, counted, read_inside, read}
 use Rattle.x696.specs.Operations.{node_limit}
 use Rattle.x696.specs.Table.{row_kind, row_first, component_row, type_of}
 use Rattle.x696.specs.TableFault.{row_sound}
-use Rattle.x696.specs.TableKinds.{sequence_of_type}
+use Rattle.x696.proofs.TableKinds.{sequence_of_type}
 use Rattle.octets.specs.Answers.{QuantityAnswer}
 use Rattle.octets.specs.declared.answers.Fault.{Fault}
 use Rattle.octets.specs.declared.answers.ReadQuantity.{ReadQuantity}

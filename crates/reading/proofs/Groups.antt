@@ -10,7 +10,7 @@ use lib.Seq.{sets}
 use Rattle.x696.specs.Outcome.{Outcome, refused, got, next}
 use Rattle.x696.specs.Value.{Val, node, Vals, value, only, node_width, size, sizes}
 use Rattle.x696.specs.Value.{nodes, nodes_of, contents, contents_of}
-use Rattle.x696.specs.ListLaws.{nodes_length}
+use Rattle.x696.proofs.ListLaws.{nodes_length}
 use Rattle.x696.specs.Read.{Message, message}
 use Rattle.octets.proofs.Stores.{sets_after}
 use Rattle.kinds.specs.Run.{cursor, number_of, Gone, Ran}

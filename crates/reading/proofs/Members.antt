@@ -11,7 +11,7 @@ use native.Mathlib.Numerals.{add-one}
 use lib.ListN.{length, get_or, drop}
 use lib.Seq.{drop-drop, get_or-drop}
 use Rattle.x696.specs.Outcome.{Outcome, refused, got, next}
-use Rattle.x696.specs.OutcomeLaws.{cases}
+use Rattle.x696.proofs.OutcomeLaws.{cases}
 use Rattle.x696.specs.Digits.{Below}
 use Rattle.x696.specs.Bits.{bit_octets, read_preamble}
 use Rattle.x696.specs.Variable.{read_unsigned}
@@ -22,7 +22,7 @@ use Rattle.x696.specs.Operations.{node_limit}
 use Rattle.x696.specs.Table.{row_kind, row_first, row_count, item_width, component_row, component_mark, component_default}
 use Rattle.x696.specs.Table.{items_from, components_from, type_of}
 use Rattle.x696.specs.TableFault.{row_sound}
-use Rattle.x696.specs.TableRows.{Component}
+use Rattle.x696.specs.SoundTable.{Component}
 use Rattle.octets.specs.Answers.{QuantityAnswer}
 use Rattle.octets.specs.declared.answers.Quantity.{Quantity}
 use Rattle.octets.specs.declared.answers.ReadQuantity.{ReadQuantity}

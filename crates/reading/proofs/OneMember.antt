@@ -9,7 +9,7 @@ use lib.ListN.{length, drop}
 use lib.Dec.{eqb}
 use borrow.Author.Tests.{eq-eqb, ne_eqb, eqb-true, eqb-false, not-true}
 use Rattle.x696.specs.Outcome.{Outcome, refused, got}
-use Rattle.x696.specs.OutcomeLaws.{cases, and_both}
+use Rattle.x696.proofs.OutcomeLaws.{cases, and_both}
 use Rattle.x696.specs.Digits.{Below}
 use Rattle.x696.specs.Value.{Val, node, no_values}
 use Rattle.x696.specs.Read.{Message, message, counted, component_by, read, read_component}

@@ -10,7 +10,7 @@ use lib.ListN.{length, take, drop}
 use lib.Dec.{eqb}
 use borrow.Author.Tests.{eqb-true, eqb-false}
 use Rattle.x696.specs.Outcome.{Outcome, refused, got, next, must}
-use Rattle.x696.specs.OutcomeLaws.{cases}
+use Rattle.x696.proofs.OutcomeLaws.{cases}
 use Rattle.x696.specs.Digits.{digits, from_digits}
 use Rattle.x696.specs.Bits.{bit_octets, unused_bits, low_bits_clear, read_preamble}
 use Rattle.x696.specs.Value.{Val, node}
@@ -20,7 +20,7 @@ use Rattle.x696.specs.Operations.{node_limit}
 use Rattle.x696.specs.Table.{row_kind, row_first, row_count, items_from}
 use Rattle.x696.specs.Table.{components_from, type_of}
 use Rattle.x696.specs.TableFault.{row_sound}
-use Rattle.x696.specs.TableKinds.{sequence_type}
+use Rattle.x696.proofs.TableKinds.{sequence_type}
 use Rattle.octets.proofs.Answered.{next_refused, next_got}
 use Rattle.octets.proofs.CountedRuns.{run_lacks, run_there}
 use Rattle.kinds.specs.Run.{inside_at}

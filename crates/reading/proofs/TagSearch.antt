@@ -8,13 +8,14 @@ use native.Mathlib.Omega.{arith}
 use lib.Dec.{ltb, eqb}
 use borrow.Author.Tests.{lt-ltb, le-ltb, eq-eqb, ltb-true, eqb-true}
 use Rattle.x696.specs.Outcome.{choose}
-use Rattle.x696.specs.OutcomeLaws.{cases, cases_lt, and_both}
+use Rattle.x696.proofs.OutcomeLaws.{cases, cases_lt, and_both}
 use Rattle.x696.specs.Tag.{tag}
 use Rattle.x696.specs.Types.{Ty, alternative}
 use Rattle.x696.specs.Table.{tag_class, tag_number, alternatives_from, items_from}
 use Rattle.x696.specs.TableCheck.{tag_before}
-use Rattle.x696.specs.TableTags.{alternatives_count, alternatives_tag, tags_differ}
-use Rattle.x696.specs.TableTests.{Each, each_first, each_later}
+use Rattle.x696.proofs.TableTags.{alternatives_count, alternatives_tag, tags_differ}
+use Rattle.x696.specs.SoundTable.{Each}
+use Rattle.x696.proofs.TableTests.{each_first, each_later}
 use Rattle.reading.specs.Parts.{TagsAscend}
 
 -- ---- the order of tags, by class, then number

@@ -9,7 +9,7 @@ use Rattle.x696.specs.Types.{presence_count}
 use Rattle.x696.specs.Read.{Message, message, read_component}
 use Rattle.x696.specs.Operations.{node_limit}
 use Rattle.x696.specs.Table.{item_width, component_row, component_mark, component_default, type_of}
-use Rattle.x696.specs.TableRows.{Component}
+use Rattle.x696.specs.SoundTable.{Component}
 use Rattle.octets.specs.Presence.{bit_at}
 use Rattle.octets.specs.declared.answers.Fault.{Fault}
 use Rattle.kinds.specs.Run.{number_of}

@@ -6,7 +6,7 @@ ghost use Rattle.std.specs.Prelude.{◌≡◌, ℕ, ◌/◌, ◌<◌, ◌≤◌,
 ghost use Rattle.x696.specs.Read.{message, read};
 ghost use Rattle.x696.specs.Operations.{node_limit};
 ghost use Rattle.x696.specs.Table.{row_width, row_kind, type_of};
-ghost use Rattle.x696.specs.TableLaws.{SoundTable};
+ghost use Rattle.x696.specs.SoundTable.{SoundTable};
 ghost use Rattle.kinds.specs.Run.{Ran, inside_at};
 ghost use Rattle.reading.specs.Members.{member_at, members, Member, Members, RanAll};
 

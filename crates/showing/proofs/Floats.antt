@@ -11,7 +11,7 @@ use mir.Syntax.{w64}
 use mir.Val.{to_z, of_z}
 use mir.ValLaws.{of_z-to_z}
 use borrow.Author.Tests.{le-ltb, lt-ltb, leb-true, eqb-true}
-use Rattle.x696.specs.OutcomeLaws.{or_either}
+use Rattle.x696.proofs.OutcomeLaws.{or_either}
 use Rattle.x696.specs.Real.{real_allowed, binary32 as singleReal, binary64 as doubleReal}
 
 pub not_nan : (f : Format) (b : ℕ) → b % top f ≤ ones f * hid f → T (not (nan_bits f b))

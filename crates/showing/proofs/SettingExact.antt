@@ -6,7 +6,7 @@ use Prim.Native.Nat.{ℕ, zero, suc, ◌^◌, ◌<◌}
 use native.Mathlib.Omega.{arith}
 use lib.Dec.{eqb}
 use borrow.Author.Tests.{eqb-true, eqb-false}
-use Rattle.x696.specs.OutcomeLaws.{cases}
+use Rattle.x696.proofs.OutcomeLaws.{cases}
 use Rattle.x696.specs.Integer.{is_unsigned}
 use Rattle.x696.specs.Real.{binary32, binary64, real_octets}
 use Rattle.x696.specs.Value.{Val, absent}

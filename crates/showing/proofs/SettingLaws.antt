@@ -21,12 +21,12 @@ use Rattle.x696.specs.Types.{Ty, leaf, missing}
 use Rattle.x696.specs.Fits.{Fits, leaf_fits, FitsComponent, plain, carried, left_out}
 use Rattle.x696.specs.Encode.{carried_octets, encode, own_octets}
 use Rattle.x696.specs.Path.{find}
-use Rattle.x696.specs.PathLaws.{find_fits}
+use Rattle.x696.proofs.PathLaws.{find_fits}
 use Rattle.x696.specs.Setting.{Setting as Meant, absent_setting, leaf_setting, type_setting, setting_of}
 use Rattle.x696.specs.Reply.{Answer, then}
 use Rattle.x696.specs.Table.{row_kind, row_flags, row_a, type_by, type_of}
 use Rattle.x696.specs.TableCheck.{default_sound}
-use Rattle.x696.specs.TableLaws.{type_of_row}
+use Rattle.x696.proofs.TableLaws.{type_of_row}
 use Rattle.x696.specs.Editing.{Place, place_in, read_setting}
 use Rattle.table.specs.declared.reply.Reply.{Reply}
 use Rattle.kinds.specs.Run.{number_of}

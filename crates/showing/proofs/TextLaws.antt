@@ -9,7 +9,7 @@ use lib.ListN.{length, length-append, take, drop}
 use lib.Dec.{eqb}
 use borrow.Author.Tests.{eq-eqb, ne_eqb, eqb-true, eqb-false}
 use Rattle.x696.specs.Outcome.{choose}
-use Rattle.x696.specs.OutcomeLaws.{cases}
+use Rattle.x696.proofs.OutcomeLaws.{cases}
 use Rattle.x696.specs.Length.{length_octets}
 use Rattle.x696.specs.Bits.{bit_octets, unused_bits}
 use Rattle.x696.specs.Integer.{is_unsigned}
@@ -24,7 +24,7 @@ use Rattle.x696.specs.Setting.{fallback, part_of, shown_string, shown_if}
 use Rattle.x696.specs.Reply.{Answer, answer}
 use Rattle.x696.specs.Path.{octets_before}
 use Rattle.x696.specs.Table.{row_kind, row_flags, row_a, row_b, type_by, type_of}
-use Rattle.x696.specs.TableLaws.{type_of_row}
+use Rattle.x696.proofs.TableLaws.{type_of_row}
 use Rattle.x696.specs.TableCheck.{default_sound}
 use Rattle.x696.specs.Editing.{Place, place_in, shown_at, show_text, shown_octets}
 use Rattle.table.specs.declared.reply.Reply.{Reply}

@@ -9,7 +9,7 @@ use lib.ListN.{length}
 use borrow.Author.Tests.{leb-true}
 use Rattle.x696.specs.Outcome.{choose}
 use Rattle.x696.specs.Table.{row_width}
-use Rattle.x696.specs.TableTests.{given-inv}
+use Rattle.x696.proofs.TableTests.{given-inv}
 use Rattle.x696.specs.TableFault.{TableFault as Meant, sound, bad_size, bad_row, sizes_sound, table_fault}
 use Rattle.x696.specs.Reply.{refusal_reply, done_reply}
 use Rattle.x696.specs.Operations.{check_reply, check}

@@ -13,7 +13,7 @@ use Rattle.x696.specs.Types.{Ty}
 use Rattle.x696.specs.Table.{row_kind, row_flags, row_a, row_b, row_first, row_count, numbers_from, type_by, type_of}
 use Rattle.x696.specs.Table.{tag_class, tag_number}
 use Rattle.x696.specs.TableCheck.{default_sound, tag_before}
-use Rattle.x696.specs.TableLaws.{type_of_row}
+use Rattle.x696.proofs.TableLaws.{type_of_row}
 use Rattle.table.proofs.Steps.{not_equal}
 
 -- a choice of types has no DEFAULT if neither side has one, or the first one is not taken

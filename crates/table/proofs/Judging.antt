@@ -10,14 +10,15 @@ use lib.ListN.{length, length-set, get_or, set}
 use lib.Seq.{get_or-set_same, get_or-set_other}
 use borrow.Author.Tests.{le-leb, lt-leb}
 use Rattle.x696.specs.Outcome.{choose}
-use Rattle.x696.specs.OutcomeLaws.{cases, cases_lt}
+use Rattle.x696.proofs.OutcomeLaws.{cases, cases_lt}
 use Rattle.x696.specs.TableCheck.{given, greatest}
-use Rattle.x696.specs.TableTests.{Each, each_first, each_later, given-inv}
+use Rattle.x696.specs.SoundTable.{Each}
+use Rattle.x696.proofs.TableTests.{each_first, each_later, given-inv}
 use Rattle.x696.specs.TableFault.{TableFault, sound, bad_size, bad_row, row_sound, row_nesting, rows_fault}
-use Rattle.x696.specs.TableLaws.{nestings_of}
-use Rattle.x696.specs.TableKinds.{no_group}
-use Rattle.x696.specs.TableNesting.{nestings_at}
-use Rattle.x696.specs.TableRows.{kind-cases, sequence_row, choice_row}
+use Rattle.x696.specs.SoundTable.{nestings_of}
+use Rattle.x696.proofs.TableKinds.{no_group}
+use Rattle.x696.proofs.TableNesting.{nestings_at}
+use Rattle.x696.proofs.TableRows.{kind-cases, sequence_row, choice_row}
 use Rattle.table.proofs.Nested.{element_lower}
 use Rattle.table.specs.declared.nestings.Judged.{Judged}
 use Rattle.table.specs.Judged.{kept, JudgesRow, Judges}

@@ -10,13 +10,13 @@ use lib.ListN.{length, get_or}
 use lib.Dec.{leb}
 use borrow.Author.Tests.{lt-ltb, le-ltb, le-leb, lt-leb, ne_eqb}
 use Rattle.x696.specs.Outcome.{choose}
-use Rattle.x696.specs.OutcomeLaws.{cases, cases_lt}
+use Rattle.x696.proofs.OutcomeLaws.{cases, cases_lt}
 use Rattle.x696.specs.Table.{row_kind, row_first, row_count, item_width, item_word}
 use Rattle.x696.specs.TableCheck.{given, greatest, no_bounds, no_range, string_sound, integer_sound, enumerated_sound}
 use Rattle.x696.specs.TableCheck.{sequence_sound, sequence_of_sound, choice_sound}
 use Rattle.x696.specs.TableFault.{row_sound, row_nesting}
-use Rattle.x696.specs.TableTests.{Each}
-use Rattle.x696.specs.TableRows.{kind_known, sequence_row, sequence_of_row, choice_row}
+use Rattle.x696.specs.SoundTable.{Each}
+use Rattle.x696.proofs.TableRows.{kind_known, sequence_row, sequence_of_row, choice_row}
 use Rattle.table.specs.Judged.{other_sound}
 
 module _ (rows items : List ℕ) (row : ℕ) where

@@ -8,7 +8,7 @@ use native.Mathlib.Omega.{arith}
 use lib.ListN.{length}
 use lib.Dec.{ltb, leb, eqb}
 use borrow.Author.Tests.{lt-ltb, le-ltb, le-leb, lt-leb, leb-true, leb-false, eq-eqb, ne_eqb}
-use Rattle.x696.specs.OutcomeLaws.{cases}
+use Rattle.x696.proofs.OutcomeLaws.{cases}
 use Rattle.x696.specs.Integer.{has_lower, has_upper, rank, is_unsigned}
 use Rattle.x696.specs.Table.{row_flags, row_a, row_b, row_first, row_count, item_width, rest_zero}
 use Rattle.x696.specs.TableCheck.{given, every, ascending, no_bounds, no_range, range_inside, integer_sound, enumerated_sound, string_sound}

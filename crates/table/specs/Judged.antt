@@ -3,7 +3,7 @@
 use Rattle.std.specs.Prelude.{◌≡◌, Bool, true, false, ◌&&◌, List, [], ℕ, ◌<◌, ltb, leb, length, get_or, set}
 use Rattle.x696.specs.Outcome.{choose}
 use Rattle.x696.specs.TableFault.{TableFault as Meant, sound, bad_size, bad_row, row_sound, row_nesting, rows_fault}
-use Rattle.x696.specs.TableLaws.{nestings_of}
+use Rattle.x696.specs.SoundTable.{nestings_of}
 use Rattle.table.specs.declared.nestings.Judged.{Judged}
 use Rattle.table.specs.declared.check.TableFault.{TableFault}
 use Rattle.table.specs.declared.check.TableFault.TheVariants.{Sound, Size, Row}

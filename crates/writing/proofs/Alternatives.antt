@@ -19,8 +19,8 @@ use Rattle.x696.specs.Walk.{Listed, walk, walk_alternative}
 use Rattle.x696.specs.Table.{row_kind, row_first, row_count, tag_class, tag_number, alternative_row, items_from}
 use Rattle.x696.specs.Table.{alternatives_from, type_of}
 use Rattle.x696.specs.TableFault.{row_sound}
-use Rattle.x696.specs.TableTags.{alternatives_count}
-use Rattle.x696.specs.TableKinds.{choice_type}
+use Rattle.x696.proofs.TableTags.{alternatives_count}
+use Rattle.x696.proofs.TableKinds.{choice_type}
 use Rattle.octets.proofs.Answered.{next_refused, next_got}
 use Rattle.octets.proofs.Stores.{sets_after}
 use Rattle.pens.specs.Put.{listed_at, walk_behind, Put}

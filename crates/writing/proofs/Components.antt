@@ -11,7 +11,7 @@ use lib.ListN.{length}
 use lib.Dec.{eqb}
 use borrow.Author.Tests.{eqb-true, eqb-false, not-true}
 use Rattle.x696.specs.Outcome.{Outcome, choose}
-use Rattle.x696.specs.OutcomeLaws.{cases, and_both}
+use Rattle.x696.proofs.OutcomeLaws.{cases, and_both}
 use Rattle.x696.specs.Value.{Val}
 use Rattle.x696.specs.Types.{Ty, kind_of, missing}
 use Rattle.x696.specs.Encode.{encode, own_octets}
@@ -19,7 +19,7 @@ use Rattle.x696.specs.Walk.{Listed, walk, walk_component}
 use Rattle.x696.specs.Table.{row_kind, component_default, type_of}
 use Rattle.x696.specs.TableFault.{row_sound}
 use Rattle.x696.specs.TableCheck.{default_sound}
-use Rattle.x696.specs.TableRows.{kind_known}
+use Rattle.x696.proofs.TableRows.{kind_known}
 use Rattle.pens.specs.Put.{pen, listed_at, Penned, Put}
 use Rattle.pens.specs.declared.pen.Pen.{Pen}
 use Rattle.pens.specs.declared.pen.Wrote.{Wrote}

@@ -9,15 +9,15 @@ use native.Mathlib.Omega.{arith}
 use lib.ListN.{replicate}
 use lib.Seq.{sets}
 use Rattle.x696.specs.Outcome.{Outcome, refused, got, next}
-use Rattle.x696.specs.OutcomeLaws.{next-inv}
+use Rattle.x696.proofs.OutcomeLaws.{next-inv}
 use Rattle.x696.specs.Bits.{bit_octets}
-use Rattle.x696.specs.BitsLaws.{preamble_none}
+use Rattle.x696.proofs.BitsLaws.{preamble_none}
 use Rattle.x696.specs.Value.{Val, Vals, no_values, value, only}
 use Rattle.x696.specs.Types.{Ty, presence_count, mark_count}
 use Rattle.x696.specs.Encode.{presence_bits, presence, carried_octets, each, encode, encode_components}
 use Rattle.x696.specs.Read.{times}
 use Rattle.x696.specs.Walk.{Listed, component_walk, walk, walk_components}
-use Rattle.x696.specs.WalkSound.{got_same}
+use Rattle.x696.proofs.WalkSound.{got_same}
 use Rattle.x696.specs.Table.{type_of}
 use Rattle.pens.specs.Put.{listed_at, Put}
 use Rattle.pens.specs.declared.pen.Wrote.{Wrote}

@@ -16,7 +16,7 @@ use Rattle.x696.specs.Encode.{each, encode}
 use Rattle.x696.specs.Walk.{Listed, walk_components}
 use Rattle.x696.specs.Table.{row_kind, row_first, component_row, type_of}
 use Rattle.x696.specs.TableFault.{row_sound}
-use Rattle.x696.specs.TableKinds.{sequence_of_type}
+use Rattle.x696.proofs.TableKinds.{sequence_of_type}
 use Rattle.octets.proofs.Answered.{next_refused, next_got}
 use Rattle.octets.proofs.Stores.{sets_after}
 use Rattle.pens.specs.Put.{listed_at, walk_behind, Put}

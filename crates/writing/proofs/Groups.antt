@@ -12,7 +12,7 @@ use lib.ListN.{length, replicate, length-append}
 use lib.Seq.{sets}
 use Rattle.x696.specs.Outcome.{Outcome, refused, got, next}
 use Rattle.x696.specs.Bits.{bit_octets, preamble}
-use Rattle.x696.specs.BitsLaws.{preamble_length}
+use Rattle.x696.proofs.BitsLaws.{preamble_length}
 use Rattle.x696.specs.Value.{Val, Vals, no_values, value}
 use Rattle.x696.specs.Walk.{Listed}
 use Rattle.octets.proofs.Stores.{sets_after, sets_append}

@@ -10,10 +10,10 @@ use native.Mathlib.Nat.{add-zero}
 use lib.ListN.{length, get_or, set, replicate, length-append, length-set, length-replicate}
 use lib.Seq.{sets, set_out, set-set, get_or-set_same, get_or-set_other, append_snoc, length-sets}
 use Rattle.x696.specs.Outcome.{choose}
-use Rattle.x696.specs.OutcomeLaws.{cases_lt}
+use Rattle.x696.proofs.OutcomeLaws.{cases_lt}
 use Rattle.x696.specs.Digits.{Below}
 use Rattle.x696.specs.Bits.{bit_octets, preamble}
-use Rattle.x696.specs.BitsLaws.{preamble_length}
+use Rattle.x696.proofs.BitsLaws.{preamble_length}
 use Rattle.x696.specs.Encode.{bit}
 use Rattle.octets.specs.Presence.{with_bit}
 use Rattle.octets.proofs.Stores.{set_sets}

@@ -10,9 +10,9 @@ use lib.ListN.{length, drop}
 use lib.Dec.{ltb, eqb}
 use borrow.Author.Tests.{lt-ltb, le-ltb, eq-eqb, ne_eqb, ltb-true, eqb-true, eqb-false}
 use Rattle.x696.specs.Outcome.{refused, got, next, must, choose}
-use Rattle.x696.specs.OutcomeLaws.{next-inv, must-inv, refused_never, cases, cases_lt, and_both}
+use Rattle.x696.proofs.OutcomeLaws.{next-inv, must-inv, refused_never, cases, cases_lt, and_both}
 use Rattle.x696.specs.Value.{Val, node, Vals, no_values, node_width, same}
-use Rattle.x696.specs.ValueLaws.{same_refl}
+use Rattle.x696.proofs.ValueLaws.{same_refl}
 use Rattle.x696.specs.Leaf.{Leaf, boolean, null, integer, enumerated, real, octet_string, bit_string, visible_string}
 use Rattle.x696.specs.Leaf.{leaf_kind}
 use Rattle.x696.specs.Types.{Ty, leaf, sequence, sequence_of, choice, kind_of, missing}
@@ -21,7 +21,7 @@ use Rattle.x696.specs.Read.{times}
 use Rattle.x696.specs.Walk.{Listed, node_in, number_if, node_at, walk_leaf, is_absent, walk_absent, component_walk, walk}
 use Rattle.x696.specs.Walk.{walk_component}
 use Rattle.x696.specs.TableCheck.{default_sound}
-use Rattle.x696.specs.WalkSound.{got_same}
+use Rattle.x696.proofs.WalkSound.{got_same}
 use Rattle.pens.specs.Put.{listed_at, walk_behind}
 use Rattle.writing.specs.Noted.{missing_at}
 use Rattle.writing.proofs.NodeTests.{kind_at, number_at, node_none, node_words, value_lacks, value_other}

@@ -11,15 +11,15 @@ use lib.Seq.{drop-cons}
 use lib.Dec.{eqb}
 use borrow.Author.Tests.{eq-eqb, ne_eqb, eqb-true, eqb-false}
 use Rattle.x696.specs.Outcome.{refused, got, next, must, choose}
-use Rattle.x696.specs.OutcomeLaws.{choose-inv}
+use Rattle.x696.proofs.OutcomeLaws.{choose-inv}
 use Rattle.x696.specs.Value.{node_width}
 use Rattle.x696.specs.Leaf.{leaf_kind, real_kind}
 use Rattle.x696.specs.Types.{Ty, leaf, sequence, sequence_of, choice, kind_of}
 use Rattle.x696.specs.Walk.{Listed, list_at, kind_number, node_in, number_if, node_at, walk}
 use Rattle.x696.specs.Table.{row_kind, type_by, type_of}
 use Rattle.x696.specs.TableFault.{row_sound}
-use Rattle.x696.specs.TableLaws.{type_of_row}
-use Rattle.x696.specs.TableRows.{kind_known}
+use Rattle.x696.proofs.TableLaws.{type_of_row}
+use Rattle.x696.proofs.TableRows.{kind_known}
 use Rattle.pens.specs.Put.{listed_at, walk_behind}
 
 -- ---- the next node

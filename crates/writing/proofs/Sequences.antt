@@ -11,15 +11,15 @@ use lib.Seq.{sets}
 use borrow.Author.Tests.{eq-eqb, ne_eqb}
 use Rattle.x696.specs.Outcome.{Outcome, refused, got, next, must}
 use Rattle.x696.specs.Bits.{bit_octets, preamble}
-use Rattle.x696.specs.BitsLaws.{preamble_length}
+use Rattle.x696.proofs.BitsLaws.{preamble_length}
 use Rattle.x696.specs.Value.{Val, node, Vals}
 use Rattle.x696.specs.Types.{Ty, sequence, Items, item_count, mark_count}
 use Rattle.x696.specs.Encode.{presence, encode, encode_components}
 use Rattle.x696.specs.Walk.{Listed, walk_components}
 use Rattle.x696.specs.Table.{row_kind, row_first, row_count, item_width, items_from, components_from, type_of}
 use Rattle.x696.specs.TableFault.{row_sound}
-use Rattle.x696.specs.TableRows.{SequenceRow}
-use Rattle.x696.specs.TableKinds.{sequence_type}
+use Rattle.x696.proofs.TableRows.{SequenceRow}
+use Rattle.x696.proofs.TableKinds.{sequence_type}
 use Rattle.octets.proofs.Answered.{next_refused, next_got}
 use Rattle.pens.specs.Put.{listed_at, walk_behind, Put}
 use Rattle.pens.specs.declared.pen.Wrote.{Wrote}

@@ -11,7 +11,7 @@ ghost use Rattle.x696.specs.Encode.{encode, own_octets};
 ghost use Rattle.x696.specs.Walk.{walk, walk_component};
 ghost use Rattle.x696.specs.Table.{row_width, row_kind, component_default, type_of};
 ghost use Rattle.x696.specs.TableCheck.{default_sound};
-ghost use Rattle.x696.specs.TableLaws.{SoundTable};
+ghost use Rattle.x696.specs.SoundTable.{SoundTable};
 ghost use Rattle.pens.specs.Put.{Put, listed_at, walk_behind, node_octets};
 ghost use Rattle.reading.specs.Members.{Members, Member};
 ghost use Rattle.writing.specs.Members.{members, PutAll};

@@ -1,7 +1,7 @@
 -- Surveyed, the room compared, then read again with the buffers lent.
 -- Assumes nothing.
 use native.Mathlib.Omega.{arith}
-use Rattle.x696.specs.TableLaws.{sound_table}
+use Rattle.x696.proofs.TableLaws.{sound_table}
 use Rattle.decoding.proofs.Replying.{value_known, decode_stop, decode_nodes, decode_contents, decode_done}
 use Rattle.decoding.proofs.operations.decode.Goals as goal
 

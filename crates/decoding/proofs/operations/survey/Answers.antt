@@ -1,6 +1,6 @@
 -- The refusal of the table or the row, or the message's own answer.
 -- Assumes nothing.
-use Rattle.x696.specs.TableLaws.{sound_table}
+use Rattle.x696.proofs.TableLaws.{sound_table}
 use Rattle.decoding.proofs.Replying.{valued_stop, valued_by}
 use Rattle.decoding.proofs.operations.survey.Goals as goal
 

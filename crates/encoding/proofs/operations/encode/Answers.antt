@@ -1,7 +1,7 @@
 -- Measured, the room compared, then written again with the buffer lent.
 -- Assumes nothing.
 use native.Mathlib.Omega.{arith}
-use Rattle.x696.specs.TableLaws.{sound_table}
+use Rattle.x696.proofs.TableLaws.{sound_table}
 use Rattle.encoding.proofs.Replying.{encode_stop, encode_room, encode_done}
 use Rattle.encoding.proofs.operations.encode.Goals as goal
 

@@ -1,7 +1,7 @@
 -- The refusal of the table, the row or the list; else the result's length is compared.
 -- Assumes nothing.
 use native.Mathlib.Omega.{arith}
-use Rattle.x696.specs.TableLaws.{sound_table}
+use Rattle.x696.proofs.TableLaws.{sound_table}
 use Rattle.encoding.proofs.Replying.{octets_table, octets_list, octets_long, octets_got}
 use Rattle.encoding.proofs.operations.octets_for.Goals as goal
 

@@ -2,7 +2,7 @@
 -- Assumes nothing.
 use mathlib.Core.Path.{refl}
 use native.Mathlib.Omega.{arith}
-use Rattle.x696.specs.TableRows.{choice_row}
+use Rattle.x696.proofs.TableRows.{choice_row}
 use Rattle.octets.proofs.Octets.{below_known}
 use Rattle.reading.proofs.Alternatives.{tag_stops, tag_unknown}
 use Rattle.finding.proofs.Openings.{opened_into, opened_nowhere, opened_refused, opened_fault}

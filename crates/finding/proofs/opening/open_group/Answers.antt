@@ -1,7 +1,7 @@
 -- A kind without components has no step; the three groups are opened each in its way.
 -- Assumes nothing.
 use native.Mathlib.Omega.{arith}
-use Rattle.x696.specs.TableRows.{kind_known}
+use Rattle.x696.proofs.TableRows.{kind_known}
 use Rattle.finding.proofs.Openings.{opened_nowhere, leaf_nowhere}
 use Rattle.finding.proofs.opening.open_group.Goals as goal
 

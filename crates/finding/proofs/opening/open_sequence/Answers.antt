@@ -3,7 +3,7 @@
 use mathlib.Core.Path.{refl}
 use native.Mathlib.Omega.{arith}
 use native.Mathlib.Nat.{add_assoc}
-use Rattle.x696.specs.TableRows.{sequence_row}
+use Rattle.x696.proofs.TableRows.{sequence_row}
 use Rattle.octets.proofs.Octets.{below_known}
 use Rattle.reading.proofs.Sequences.{preamble_short, preamble_padded, preamble_got, preamble_stops}
 use Rattle.finding.proofs.Openings.{opened_into, opened_nowhere, opened_refused, opened_fault}

@@ -2,7 +2,7 @@
 -- Assumes nothing.
 use mathlib.Core.Path.{refl}
 use native.Mathlib.Omega.{arith}
-use Rattle.x696.specs.TableRows.{sequence_of_row}
+use Rattle.x696.proofs.TableRows.{sequence_of_row}
 use Rattle.octets.proofs.Octets.{below_known}
 use Rattle.reading.proofs.Elements.{quantity_stops}
 use Rattle.finding.proofs.Openings.{opened_into, opened_nowhere, opened_fault}

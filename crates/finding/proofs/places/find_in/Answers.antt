@@ -1,6 +1,6 @@
 -- The refusal of the table or the row, or the message's own answer.
 -- Assumes nothing.
-use Rattle.x696.specs.TableLaws.{sound_table}
+use Rattle.x696.proofs.TableLaws.{sound_table}
 use Rattle.finding.proofs.PlaceLaws.{place_refused, asked_stop, asked_place}
 use Rattle.finding.proofs.places.find_in.Goals as goal
 

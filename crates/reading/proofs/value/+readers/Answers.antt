@@ -7,7 +7,7 @@
 -- The answer of `read_sequence_of` is the outcome of reading a SEQUENCE OF, its node counted: one law for each return.
 use Prim.Native.Nat.{◌<◌}
 use native.Mathlib.Omega.{arith}
-use Rattle.x696.specs.TableRows.{choice_row, kind_known, sequence_row, sequence_of_row}
+use Rattle.x696.proofs.TableRows.{choice_row, kind_known, sequence_row, sequence_of_row}
 use Rattle.octets.proofs.Octets.{below_known}
 use mathlib.Core.Path.{◌≡◌, refl, sym, ◌∙◌}
 use Rattle.reading.proofs.Chains.{Chain}

@@ -1,6 +1,6 @@
 -- A DEFAULT is tested by the kind of its row, as `default_sound` says of the row's type: no loop.
 -- Assumes nothing.
-use Rattle.x696.specs.TableRows.{enumerated_row}
+use Rattle.x696.proofs.TableRows.{enumerated_row}
 use Rattle.table.proofs.Items.{default_boolean, default_integer, default_enumerated, default_list, default_none}
 use Rattle.table.proofs.groups.default_sound.Goals as goal
 

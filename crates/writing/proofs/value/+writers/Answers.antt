@@ -9,7 +9,7 @@
 use Prim.Native.Nat.{◌<◌, ◌≤◌}
 use mathlib.Core.Path.{refl, ◌≡◌, sym, ◌∙◌}
 use native.Mathlib.Omega.{arith}
-use Rattle.x696.specs.TableRows.{choice_row, kind_known, sequence_row, sequence_of_row}
+use Rattle.x696.proofs.TableRows.{choice_row, kind_known, sequence_row, sequence_of_row}
 use Rattle.reading.proofs.Members.{members_alone}
 use Rattle.pens.proofs.Putting
 use Rattle.writing.proofs.Copies

@@ -1,7 +1,7 @@
 -- The answer of `write_component` is the outcome of walking one component: one law for each return.
 -- Assumes nothing.
 use mathlib.Core.Path.{sym, ◌∙◌}
-use Rattle.x696.specs.TableRows.{kind_known}
+use Rattle.x696.proofs.TableRows.{kind_known}
 use Rattle.writing.proofs.NodeTests
 use Rattle.writing.proofs.Components
 use Rattle.writing.proofs.value.write_component.Goals as goal
