@@ -4,7 +4,7 @@
 staticlib() {
   local log=target/bench/$1.log
   mkdir -p target/bench
-  rt staticlib "$1" > "$log" 2>&1 || { tail -5 "$log" >&2; exit 1; }
+  bash tools/archive "$1" > "$log" 2>&1 || { tail -5 "$log" >&2; exit 1; }
 }
 
 # --- Programs that link a crate's own exports and have plain Rust twins of them ---

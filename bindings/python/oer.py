@@ -52,7 +52,7 @@ def _build():
     """The shared library, made of the archive once; OER_LIB_DIR names the archive's directory if it is another one."""
     archive = Path(os.environ.get("OER_LIB_DIR", ROOT / "target" / "staticlib")) / "liboer_c.a"
     if not archive.exists():
-        raise FileNotFoundError(f"{archive} is not there: `rt staticlib oer_c` writes it")
+        raise FileNotFoundError(f"{archive} is not there: `bash tools/archive oer_c` writes it")
     shared = ROOT / "target" / "python" / "liboer_c.so"
     made_of = shared.with_suffix(".from")
     stamp = f"{archive.resolve()} {archive.stat().st_mtime_ns}"
