@@ -2,7 +2,7 @@
 -- Assumes nothing.
 use mathlib.Core.Path.{ap, ◌∙◌}
 use Rattle.showing.specs.Flat.{flat_of}
-use Rattle.oer.specs.ContractLaws.{setting_iff}
+use Rattle.oer.proofs.ContractLaws.{setting_iff}
 use Rattle.oer_c.proofs.oer_read_setting.Goals as goal
 
 pub returns : goal.returns

@@ -1,6 +1,6 @@
 -- The check of crate `table`, its equation by cases.
 -- Assumes nothing.
-use Rattle.oer.specs.ContractLaws.{check_iff}
+use Rattle.oer.proofs.ContractLaws.{check_iff}
 use Rattle.oer.proofs.operations.check.Goals as goal
 
 pub returns : goal.returns

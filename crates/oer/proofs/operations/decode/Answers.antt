@@ -1,6 +1,6 @@
 -- The decoding of crate `reading`, its equations by cases.
 -- Assumes nothing.
-use Rattle.oer.specs.ContractLaws.{decode_iff}
+use Rattle.oer.proofs.ContractLaws.{decode_iff}
 use Rattle.oer.proofs.operations.decode.Goals as goal
 
 pub returns : goal.returns

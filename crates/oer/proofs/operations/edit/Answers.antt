@@ -1,6 +1,6 @@
 -- The edit of crate `editing`, its equations by cases.
 -- Assumes nothing.
-use Rattle.oer.specs.ContractLaws.{edit_iff}
+use Rattle.oer.proofs.ContractLaws.{edit_iff}
 use Rattle.oer.proofs.operations.edit.Goals as goal
 
 pub returns : goal.returns

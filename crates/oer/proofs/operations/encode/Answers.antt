@@ -1,6 +1,6 @@
 -- The encoding of crate `writing`, its equations by cases.
 -- Assumes nothing.
-use Rattle.oer.specs.ContractLaws.{encode_iff}
+use Rattle.oer.proofs.ContractLaws.{encode_iff}
 use Rattle.oer.proofs.operations.encode.Goals as goal
 
 pub returns : goal.returns

@@ -1,6 +1,6 @@
 -- The measuring of crate `writing`, its equation by cases.
 -- Assumes nothing.
-use Rattle.oer.specs.ContractLaws.{measure_iff}
+use Rattle.oer.proofs.ContractLaws.{measure_iff}
 use Rattle.oer.proofs.operations.measure.Goals as goal
 
 pub returns : goal.returns

@@ -1,6 +1,6 @@
 -- The reading of crate `finding`, its equation by cases.
 -- Assumes nothing.
-use Rattle.oer.specs.ContractLaws.{setting_iff}
+use Rattle.oer.proofs.ContractLaws.{setting_iff}
 use Rattle.oer.proofs.operations.read_setting.Goals as goal
 
 pub returns : goal.returns

@@ -1,6 +1,6 @@
 -- The showing of crate `finding`, its equation by cases.
 -- Assumes nothing.
-use Rattle.oer.specs.ContractLaws.{text_iff}
+use Rattle.oer.proofs.ContractLaws.{text_iff}
 use Rattle.oer.proofs.operations.show_text.Goals as goal
 
 pub returns : goal.returns

@@ -1,6 +1,6 @@
 -- The validation of crate `reading`, its equation by cases.
 -- Assumes nothing.
-use Rattle.oer.specs.ContractLaws.{validate_iff}
+use Rattle.oer.proofs.ContractLaws.{validate_iff}
 use Rattle.oer.proofs.operations.validate.Goals as goal
 
 pub returns : goal.returns

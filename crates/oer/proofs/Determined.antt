@@ -5,7 +5,7 @@ use Rattle.std.specs.Prelude.{◌≡◌, List, ℕ}
 use Rattle.table.specs.declared.reply.Reply.{Reply}
 use Rattle.showing.specs.declared.settings.Setting.{Setting}
 use Rattle.oer.specs.Promises.{Checks, Validates, Decodes, Measures, Encodes, Edits, Reads, Shows}
-use Rattle.oer.specs.ContractLaws as laws
+use Rattle.oer.proofs.ContractLaws as laws
 
 module _ (rows items : List ℕ) where
   pub check_determined : {r r' : Reply} → Checks rows items r → Checks rows items r' → r ≡ r'

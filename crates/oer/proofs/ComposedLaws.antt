@@ -12,7 +12,7 @@ use Rattle.x696.proofs.RoundTrip.{encode_decoded, decode_encoded, validate_foret
 use Rattle.table.specs.Replies.{as_reply}
 use Rattle.table.specs.declared.reply.Reply.{Reply}
 use Rattle.oer.specs.Promises.{Validates, Decodes, Measures, Encodes}
-use Rattle.oer.specs.ContractLaws.{IsDecoded, IsWritten, validate_iff, measure_iff, decode_iff, encode_iff}
+use Rattle.oer.proofs.ContractLaws.{IsDecoded, IsWritten, validate_iff, measure_iff, decode_iff, encode_iff}
 
 -- what an outcome hands out is what its definition hands out
 list_same : {ns cs : List ℕ} {r : Reply} (d : Decoded) → IsDecoded ns cs r d

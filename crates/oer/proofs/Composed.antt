@@ -10,7 +10,7 @@ use Rattle.x696.specs.Usable.{Usable}
 use Rattle.table.specs.Replies.{as_reply}
 use Rattle.table.specs.declared.reply.Reply.{Reply}
 use Rattle.oer.specs.Promises.{Validates, Decodes, Measures, Encodes}
-use Rattle.oer.specs.ComposedLaws as laws
+use Rattle.oer.proofs.ComposedLaws as laws
 
 module _ (rows items : List ℕ) (row : ℕ) (usable : Usable rows items row) where
   -- decode, then encode what was handed out: the message
