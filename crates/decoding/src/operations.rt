@@ -28,7 +28,8 @@ pub fn asked_row(rows: &[u64], items: &[u64], row: u64) -> Asked
         TableFault::Size => Asked::Refused(refusal(1, 0, 0)),
         TableFault::Row(k) => Asked::Refused(refusal(2, 0, k as u64)),
         TableFault::Sound => {
-            if rows_in(rows) as u64 <= row {
+            let past = rows_in(rows) as u64 <= row;
+            if past {
                 return Asked::Refused(refusal(3, 0, 0));
             }
             Asked::Ready
@@ -73,7 +74,8 @@ fn survey_message(rows: &[u64], items: &[u64], row: usize, msg: &[u8]) -> Survey
         Read::Refused(f) => Surveyed::Refused(refusal(f.number, 1, f.place as u64)),
         Read::Got(c) => {
             let at = c.at;
-            if at < msg.len() {
+            let left_over = at < msg.len();
+            if left_over {
                 return Surveyed::Refused(refusal(9, 1, at as u64));
             }
             Surveyed::Got(Counts {
@@ -126,7 +128,8 @@ pub fn decode(
             if nodes.len() / 2 < count {
                 return refusal(12, 4, 0);
             }
-            if contents.len() < used {
+            let lacks = contents.len() < used;
+            if lacks {
                 return refusal(12, 4, 0);
             }
             let _again = read_value(rows, items, row as usize, msg, 0, 0, 0, nodes, contents);

@@ -32,7 +32,8 @@ pub fn edit(
             match survey_list(rows, items, s.row, s.mark, s.given, nodes, contents) {
                 Measured::Refused(r) => r,
                 Measured::Got(n) => {
-                    if 4096 < w.count - s.nodes + nodes.len() / 2 {
+                    let many = 4096 < w.count - s.nodes + nodes.len() / 2;
+                    if many {
                         return refusal(10, 4, 0);
                     }
                     if 65535 < n {
@@ -42,7 +43,8 @@ pub fn edit(
                     if 65535 < octets {
                         return refusal(4, 4, 0);
                     }
-                    if out.len() < octets {
+                    let lacks = out.len() < octets;
+                    if lacks {
                         return refusal(12, 4, 0);
                     }
                     splice(rows, items, s, nodes, contents, n, msg, out);

@@ -35,7 +35,8 @@ pub fn survey_list(
     if 4096 < count {
         return Measured::Refused(refusal(10, 2, 0));
     }
-    if 65535 < contents.len() {
+    let long = 65535 < contents.len();
+    if long {
         return Measured::Refused(refusal(4, 2, 0));
     }
     let mut out = [0u8; 1];
@@ -58,7 +59,8 @@ pub fn survey_list(
             if at < count {
                 return Measured::Refused(refusal(11, 2, at as u64));
             }
-            if c.used < contents.len() {
+            let left_over = c.used < contents.len();
+            if left_over {
                 return Measured::Refused(refusal(11, 2, at as u64));
             }
             Measured::Got(c.to)

@@ -55,7 +55,8 @@ pub fn encode(
     match octets_for(rows, items, row, nodes, contents) {
         Measured::Refused(r) => r,
         Measured::Got(n) => {
-            if out.len() < n {
+            let lacks = out.len() < n;
+            if lacks {
                 return refusal(12, 4, 0);
             }
             let _again = write_value(rows, items, row as usize, nodes, contents, 0, 0, 0, out);

@@ -19,7 +19,8 @@ fn is_absent(mark: u64, msg: &[u8], pre: usize, b: usize) -> bool
     requires { (pre ≤ length msg.now) × (b < 1024) }
     ensures { result ≡ eqb mark 1 && not (eqb (bit_at msg.now pre b) 1) }
 {
-    if mark == 1 {
+    let optional = mark == 1;
+    if optional {
         !is_present(msg, pre, b)
     } else {
         false
@@ -115,7 +116,8 @@ pub fn follow(
     requires { SoundTable rows.now items.now × (row < length rows.now / row_width) × (at ≤ length msg.now) × (length msg.now ≤ 65535) × Fitting (type_of rows.now items.now row) mark given × (pre ≤ length msg.now) × (b < 1024) }
     ensures { Follows rows.now items.now msg.now mark given row pre b at count path.now step result }
 {
-    if path.len() <= step {
+    let ended = path.len() <= step;
+    if ended {
         return follow_end(
             rows, items, row, mark, given, msg, pre, b, at, count, path, step,
         );

@@ -17,7 +17,8 @@ fn low_half(n: u64) -> usize
     requires { n < 0x1_0000_0000 }
     ensures { (result ≡ fewest 8 n) × (1 ≤ result) × (result ≤ 8) }
 {
-    if n < 0x100 {
+    let one_octet = n < 0x100;
+    if one_octet {
         return 1;
     }
     if n < 0x1_0000 {

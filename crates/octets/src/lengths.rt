@@ -54,12 +54,14 @@ fn long_run(msg: &[u8], start: usize, k: usize, place: usize) -> ReadRun
         return refused(6, place);
     }
     // 2 ^ 64 octets and more are not there
-    if 8 < k {
+    let huge = 8 < k;
+    if huge {
         return refused(5, place);
     }
     let n = read_number(msg, start, k);
     // below 128 the short form is due (31.2)
-    if n < 128 {
+    let low = n < 128;
+    if low {
         return refused(6, place);
     }
     run_at(msg, start + k, n, place)
@@ -85,7 +87,8 @@ pub fn put_length(out: &mut [u8], to: usize, n: Octets) -> usize
     ensures { (out.new ≡ sets out.old to (length_octets n.0)) × (result ≡ to + length (length_octets n.0)) × (result ≤ to + 9) }
 {
     let m = n.0;
-    if m < 128 {
+    let short = m < 128;
+    if short {
         put_octet(out, to, (m % 256) as u8);
         return to + 1;
     }

@@ -46,7 +46,8 @@ fn long_tag(msg: &[u8], start: usize, class: u64, place: usize) -> ReadTag
         i += 1;
         if x < 128 {
             // below 63 the one octet is due (8.7.2.2); the first group is not 0 (8.7.2.3 c)
-            if n < 63 {
+            let low = n < 63;
+            if low {
                 return refused(6, place);
             }
             if octet(msg, start) == 128 {
@@ -76,7 +77,8 @@ pub fn put_tag(out: &mut [u8], to: usize, class: u64, number: u64) -> usize
     requires { (to < 2 ^ 40) × (class < 4) × (number < 2097152) }
     ensures { (out.new ≡ sets out.old to (tag_octets (tag class number))) × (result ≡ to + length (tag_octets (tag class number))) × (result ≤ to + 4) }
 {
-    if number < 63 {
+    let short = number < 63;
+    if short {
         put_octet(out, to, (class * 64 + number) as u8);
         return to + 1;
     }

@@ -27,7 +27,8 @@ fn sizes_sound(rows: &[u64], items: &[u64]) -> bool
     if rows_in(rows) == 0 {
         return false;
     }
-    if 256 < rows_in(rows) {
+    let many = 256 < rows_in(rows);
+    if many {
         return false;
     }
     if items.len() % 3 != 0 {

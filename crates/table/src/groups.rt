@@ -123,7 +123,8 @@ fn alternative_sound(rows: &[u64], items: &[u64], row: usize, i: usize) -> bool
     if 4 <= tag_class(items, i) {
         return false;
     }
-    if 2097151 < tag_number(items, i) {
+    let wide = 2097151 < tag_number(items, i);
+    if wide {
         return false;
     }
     alternative_row(items, i) < row as u64

@@ -119,7 +119,8 @@ fn judge_row(rows: &[u64], items: &[u64], row: usize, nestings: &mut [u8; 256]) 
         return true;
     }
     let deep = row_nesting(rows, items, row, nestings);
-    if 16 < deep {
+    let too_deep = 16 < deep;
+    if too_deep {
         return true;
     }
     nestings[row] = deep as u8;

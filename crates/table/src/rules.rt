@@ -59,7 +59,8 @@ fn bounds_ordered(flags: u64, a: u64, b: u64) -> bool
     if !has_upper(flags) {
         return true;
     }
-    if is_unsigned(flags, a) {
+    let unsigned = is_unsigned(flags, a);
+    if unsigned {
         a <= b
     } else {
         rank_of(a) <= rank_of(b)

@@ -11,11 +11,11 @@ returns-then-nodes-count c =
     (c.survey.ensures.went _ c.in-Got.is)
     c.if-nodes-count.true c.refusal.ensures
 
-pub returns-then-contents-used : goal.returns-then-contents-used
-returns-then-contents-used c =
+pub returns-then-lacks : goal.returns-then-lacks
+returns-then-lacks c =
     decode_contents _ _ _ _ _ _
     (c.survey.ensures.went _ c.in-Got.is)
-    (omega arith) c.if-contents-used.true c.refusal-then-contents-used.ensures
+    (omega arith) c.if-lacks.true c.refusal-then-lacks.ensures
 
 pub read_value-again-requires : goal.read_value-again-requires
 read_value-again-requires c =
@@ -27,8 +27,8 @@ read_value-again-requires c =
 pub returns-in-Refused : goal.returns-in-Refused
 returns-in-Refused c = decode_stop _ _ _ _ _ _ (c.survey.ensures.stopped _ c.in-Refused.is)
 
-pub returns-else-contents-used : goal.returns-else-contents-used
-returns-else-contents-used c =
+pub returns-else-lacks : goal.returns-else-lacks
+returns-else-lacks c =
     decode_done _ _ _ _ _ _
     (c.survey.ensures.went _ c.in-Got.is)
     (omega arith) (omega arith) _ c.read_value-again.ensures c.done.ensures

@@ -8,11 +8,11 @@ use Rattle.decoding.proofs.operations.survey_message.Goals as goal
 pub returns-then-msg-gt65535 : goal.returns-then-msg-gt65535
 returns-then-msg-gt65535 c = value_stop (message_long_lem _ _ c.if-msg-gt65535.true) c.refusal.ensures
 
-pub returns-then-at-msg : goal.returns-then-at-msg
-returns-then-at-msg c =
+pub returns-then-left_over : goal.returns-then-left_over
+returns-then-left_over c =
     value_stop
-    (message_left _ _ (omega arith) (c.read_value.ensures.went _ c.in-Got.is) c.if-at-msg.true)
-    c.refusal-then-at-msg.ensures
+    (message_left _ _ (omega arith) (c.read_value.ensures.went _ c.in-Got.is) c.if-left_over.true)
+    c.refusal-then-left_over.ensures
 
 pub returns-in-Refused : goal.returns-in-Refused
 returns-in-Refused c =
@@ -20,7 +20,7 @@ returns-in-Refused c =
     (message_fault _ _ (omega arith) (c.read_value.ensures.stopped _ c.in-Refused.is))
     c.refusal-in-Refused.ensures
 
-pub returns-else-at-msg : goal.returns-else-at-msg
-returns-else-at-msg c =
+pub returns-else-left_over : goal.returns-else-left_over
+returns-else-left_over c =
     value_got
     (message_done _ _ (omega arith) (c.read_value.ensures.went _ c.in-Got.is) (omega arith))

@@ -11,24 +11,24 @@ survey_list-requires c =
     let h = c.find_in.ensures.went _ c.in-Found.is in
     (h.sound, h.spot.inside, given_sound _ _ _ _ _ h)
 
-pub overflow_sub-w : goal.overflow_sub-w
-overflow_sub-w c =
+pub overflow_sub-many : goal.overflow_sub-many
+overflow_sub-many c =
     let h = c.find_in.ensures.went _ c.in-Found.is in
     nodes_held _ _ _ _ _ h
 
-pub overflow_add-w : goal.overflow_add-w
-overflow_add-w c =
+pub overflow_add-many : goal.overflow_add-many
+overflow_add-many c =
     let h = c.find_in.ensures.went _ c.in-Found.is in
     omega (arith, h.few, (c.survey_list.ensures.went _ c.in-Got.is).few)
 
-pub returns-then-w-s-gt4096 : goal.returns-then-w-s-gt4096
-returns-then-w-s-gt4096 c =
+pub returns-then-many : goal.returns-then-many
+returns-then-many c =
     let h = c.find_in.ensures.went _ c.in-Found.is in
     let words = below_known 64 c.args.nodes.now (λ i. (c.type_inv.nodes i).fits) in
     let octets = below_known 8 c.args.contents.now (λ i. (c.type_inv.contents i).fits) in
     let table = below_known 64 c.args.items.now (λ i. (c.type_inv.items i).fits) in
     nodes_stop _ _ _ _ _ _ _ _ h (c.survey_list.ensures.went _ c.in-Got.is) words octets table
-    c.if-w-s-gt4096.true c.refusal.ensures
+    c.if-many.true c.refusal.ensures
 
 pub returns-then-n-gt65535 : goal.returns-then-n-gt65535
 returns-then-n-gt65535 c =
@@ -37,7 +37,7 @@ returns-then-n-gt65535 c =
     let octets = below_known 8 c.args.contents.now (λ i. (c.type_inv.contents i).fits) in
     let table = below_known 64 c.args.items.now (λ i. (c.type_inv.items i).fits) in
     long_stop _ _ _ _ _ _ _ _ h (c.survey_list.ensures.went _ c.in-Got.is) words octets table
-    c.if-w-s-gt4096.false
+    c.if-many.false
     (omega (arith, c.if-n-gt65535.true)) c.refusal-then-n-gt65535.ensures
 
 pub overflow_sub-octets : goal.overflow_sub-octets
@@ -63,18 +63,18 @@ returns-then-octets-gt65535 c =
     let octets = below_known 8 c.args.contents.now (λ i. (c.type_inv.contents i).fits) in
     let table = below_known 64 c.args.items.now (λ i. (c.type_inv.items i).fits) in
     long_stop _ _ _ _ _ _ _ _ h (c.survey_list.ensures.went _ c.in-Got.is) words octets table
-    c.if-w-s-gt4096.false
+    c.if-many.false
     c.if-octets-gt65535.true c.refusal-then-octets-gt65535.ensures
 
-pub returns-then-out-octets : goal.returns-then-out-octets
-returns-then-out-octets c =
+pub returns-then-lacks : goal.returns-then-lacks
+returns-then-lacks c =
     let h = c.find_in.ensures.went _ c.in-Found.is in
     let words = below_known 64 c.args.nodes.now (λ i. (c.type_inv.nodes i).fits) in
     let octets = below_known 8 c.args.contents.now (λ i. (c.type_inv.contents i).fits) in
     let table = below_known 64 c.args.items.now (λ i. (c.type_inv.items i).fits) in
     room_stop _ _ _ _ _ _ _ _ h (c.survey_list.ensures.went _ c.in-Got.is) words octets table
-    c.if-w-s-gt4096.false
-    c.if-octets-gt65535.false c.if-out-octets.true c.refusal-then-out-octets.ensures
+    c.if-many.false
+    c.if-octets-gt65535.false c.if-lacks.true c.refusal-then-lacks.ensures
 
 pub splice-requires : goal.splice-requires
 splice-requires c =
@@ -102,12 +102,12 @@ returns-in-Refused-survey_list c =
     let h = c.find_in.ensures.went _ c.in-Found.is in
     list_stops _ _ _ _ _ _ _ _ h (c.survey_list.ensures.stopped _ c.in-Refused-survey_list.is)
 
-pub returns-else-out-octets : goal.returns-else-out-octets
-returns-else-out-octets c =
+pub returns-else-lacks : goal.returns-else-lacks
+returns-else-lacks c =
     let h = c.find_in.ensures.went _ c.in-Found.is in
     let words = below_known 64 c.args.nodes.now (λ i. (c.type_inv.nodes i).fits) in
     let octets = below_known 8 c.args.contents.now (λ i. (c.type_inv.contents i).fits) in
     let table = below_known 64 c.args.items.now (λ i. (c.type_inv.items i).fits) in
     edit_done _ _ _ _ _ _ _ _ h (c.survey_list.ensures.went _ c.in-Got.is) words octets table
-    c.if-w-s-gt4096.false
-    c.if-octets-gt65535.false c.if-out-octets.false c.splice.ensures c.done.ensures
+    c.if-many.false
+    c.if-octets-gt65535.false c.if-lacks.false c.splice.ensures c.done.ensures

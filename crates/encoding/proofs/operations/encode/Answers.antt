@@ -5,9 +5,9 @@ use Rattle.x696.proofs.TableLaws.{sound_table}
 use Rattle.encoding.proofs.Replying.{encode_stop, encode_room, encode_done}
 use Rattle.encoding.proofs.operations.encode.Goals as goal
 
-pub returns-then-out-n : goal.returns-then-out-n
-returns-then-out-n c =
-    encode_room _ _ _ _ _ (c.octets_for.ensures.went _ c.in-Got.is) _ c.if-out-n.true
+pub returns-then-lacks : goal.returns-then-lacks
+returns-then-lacks c =
+    encode_room _ _ _ _ _ (c.octets_for.ensures.went _ c.in-Got.is) _ c.if-lacks.true
     c.refusal.ensures
 
 pub write_value-again-requires : goal.write_value-again-requires
@@ -18,8 +18,8 @@ write_value-again-requires c =
 pub returns-in-Refused : goal.returns-in-Refused
 returns-in-Refused c = encode_stop _ _ _ _ _ (c.octets_for.ensures.stopped _ c.in-Refused.is) _
 
-pub returns-else-out-n : goal.returns-else-out-n
-returns-else-out-n c =
-    encode_done _ _ _ _ _ (c.octets_for.ensures.went _ c.in-Got.is) _ c.if-out-n.false _
+pub returns-else-lacks : goal.returns-else-lacks
+returns-else-lacks c =
+    encode_done _ _ _ _ _ (c.octets_for.ensures.went _ c.in-Got.is) _ c.if-lacks.false _
     c.write_value-again.ensures
     c.done.ensures

@@ -12,11 +12,11 @@ follow_end-requires t c = (
   c.requires.4,
   c.requires.5,
   c.requires.6,
-  c.if-path-step.true,
+  c.if-ended.true,
 )
 
-pub returns-then-path-step : goal.returns-then-path-step
-returns-then-path-step t c = c.follow_end.ensures
+pub returns-then-ended : goal.returns-then-ended
+returns-then-ended t c = c.follow_end.ensures
 
 pub open_component-requires : goal.open_component-requires
 open_component-requires t c = c.requires
@@ -30,12 +30,12 @@ follow_nowhere-requires t c = (
   c.requires.4,
   c.requires.5,
   c.requires.6,
-  c.if-path-step.false,
+  c.if-ended.false,
   c.open_component.ensures.nowhere c.in-Nowhere.is,
 )
 
 pub overflow_add-step : goal.overflow_add-step
-overflow_add-step t c = omega (arith, c.if-path-step.false)
+overflow_add-step t c = omega (arith, c.if-ended.false)
 
 pub follow-requires : goal.follow-requires
 follow-requires t c =
@@ -86,7 +86,7 @@ pub returns-in-Got : goal.returns-in-Got
 returns-in-Got t c =
     let l = c.open_component.ensures.into _ c.in-Into.is in
     let h = c.follow.ensures.lost _ c.in-Nowhere-follow.is in
-    follows_lost (child_lost _ _ _ _ _ _ _ _ _ _ _ _ c.if-path-step.false _ l h (c.pass_behind.ensures.went _
+    follows_lost (child_lost _ _ _ _ _ _ _ _ _ _ _ _ c.if-ended.false _ l h (c.pass_behind.ensures.went _
     c.in-Got.is))
 
 pub returns-in-Refused-pass_behind-2 : goal.returns-in-Refused-pass_behind-2
@@ -100,5 +100,5 @@ pub returns-in-Got-pass_behind : goal.returns-in-Got-pass_behind
 returns-in-Got-pass_behind t c =
     let l = c.open_component.ensures.into _ c.in-Into.is in
     let h = c.follow.ensures.found _ c.in-Found.is in
-    follows_found (child_found _ _ _ _ _ _ _ _ _ _ _ _ c.if-path-step.false _ l h (c.pass_behind-in-Found.ensures.went _
+    follows_found (child_found _ _ _ _ _ _ _ _ _ _ _ _ c.if-ended.false _ l h (c.pass_behind-in-Found.ensures.went _
     c.in-Got-pass_behind.is))

@@ -4,8 +4,8 @@ use borrow.Author.Tests.{eq-eqb, ne_eqb}
 use mathlib.Core.Path.{refl}
 use Rattle.finding.proofs.following.is_absent.Goals as goal
 
-pub returns-then-mark-eq1 : goal.returns-then-mark-eq1
-returns-then-mark-eq1 c = rw (eq-eqb _ 1 c.if-mark-eq1.true, c.is_present.ensures) refl
+pub returns-then-optional : goal.returns-then-optional
+returns-then-optional c = rw (eq-eqb _ 1 c.if-optional.true, c.is_present.ensures) refl
 
-pub returns-else-mark-eq1 : goal.returns-else-mark-eq1
-returns-else-mark-eq1 c = rw (ne_eqb _ 1 c.if-mark-eq1.false) refl
+pub returns-else-optional : goal.returns-else-optional
+returns-else-optional c = rw (ne_eqb _ 1 c.if-optional.false) refl

@@ -4,8 +4,8 @@ use native.Mathlib.Omega.{arith}
 use Rattle.octets.proofs.Few.{fewest_between}
 use Rattle.octets.proofs.fewest.low_half.Goals as goal
 
-pub returns-then-n-lt256 : goal.returns-then-n-lt256
-returns-then-n-lt256 c = (fewest_between 0 _ (λ h. omega arith) (omega arith), omega arith, omega arith)
+pub returns-then-one_octet : goal.returns-then-one_octet
+returns-then-one_octet c = (fewest_between 0 _ (λ h. omega arith) (omega arith), omega arith, omega arith)
 
 pub returns-then-n-lt65536 : goal.returns-then-n-lt65536
 returns-then-n-lt65536 c = (fewest_between 1 _ (λ h. omega arith) (omega arith), omega arith, omega arith)

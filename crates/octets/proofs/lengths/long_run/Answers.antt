@@ -23,23 +23,23 @@ returns-then-not-is_fewest c =
     c.is_fewest.ensures c.if-not-is_fewest.true)
     c.refused-then-not-is_fewest.ensures
 
-pub returns-then-k-gt8 : goal.returns-then-k-gt8
-returns-then-k-gt8 c =
+pub returns-then-huge : goal.returns-then-huge
+returns-then-huge c =
     run_refused
     (long_huge _ _ _ _ c.requires.0
     c.if-k-eq0.false c.if-msg-start.false _
     c.is_fewest.ensures c.if-not-is_fewest.false
-    (omega arith) c.if-k-gt8.true)
-    c.refused-then-k-gt8.ensures
+    (omega arith) c.if-huge.true)
+    c.refused-then-huge.ensures
 
-pub returns-then-n-lt128 : goal.returns-then-n-lt128
-returns-then-n-lt128 c =
+pub returns-then-low : goal.returns-then-low
+returns-then-low c =
     run_refused
     (long_low _ _ _ _ c.requires.0
     c.if-k-eq0.false
     c.if-msg-start.false _ c.read_number-n.ensures.0
-    c.if-n-lt128.true)
-    c.refused-then-n-lt128.ensures
+    c.if-low.true)
+    c.refused-then-low.ensures
 
 pub returns : goal.returns
 returns c =
@@ -49,5 +49,5 @@ returns c =
     c.if-msg-start.false _
     c.is_fewest.ensures
     c.if-not-is_fewest.false _ c.read_number-n.ensures.0
-    c.if-n-lt128.false)
+    c.if-low.false)
     (omega arith) c.run_at.ensures

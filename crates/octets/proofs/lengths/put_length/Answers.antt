@@ -3,8 +3,8 @@
 use Rattle.octets.proofs.Puts.{put_length_long, put_length_short}
 use Rattle.octets.proofs.lengths.put_length.Goals as goal
 
-pub returns-then-m-lt128 : goal.returns-then-m-lt128
-returns-then-m-lt128 c = put_length_short _ _ _ _ c.if-m-lt128.true c.put_octet.ensures
+pub returns-then-short : goal.returns-then-short
+returns-then-short c = put_length_short _ _ _ _ c.if-short.true c.put_octet.ensures
 
 pub returns : goal.returns
 returns c =
@@ -12,5 +12,5 @@ returns c =
     c.fewest_unsigned-k.ensures.2
     c.put_number.ensures
     c.fewest_unsigned-k.ensures.0
-    c.if-m-lt128.false
+    c.if-short.false
     c.put_octet-2.ensures

@@ -15,24 +15,24 @@ with_group-n-requires c = (grouped_small c.loop-i.invariant, omega arith)
 pub overflow_add-i : goal.overflow_add-i
 overflow_add-i c = omega (arith)
 
-pub returns-then-n-lt63 : goal.returns-then-n-lt63
-returns-then-n-lt63 c =
+pub returns-then-low : goal.returns-then-low
+returns-then-low c =
     long_low _ _ _ _ c.loop-i.invariant c.loop-i-test.true
     c.octet-x.ensures.0 c.octet-x.ensures.1 c.with_group-n.ensures.0
-    c.if-x-lt128.true c.if-n-lt63.true c.refused.ensures
+    c.if-x-lt128.true c.if-low.true c.refused.ensures
 
 pub returns-then-octet-eq128 : goal.returns-then-octet-eq128
 returns-then-octet-eq128 c =
     long_lead _ _ _ _ c.loop-i.invariant c.loop-i-test.true
     c.octet-x.ensures.0 c.octet-x.ensures.1 c.with_group-n.ensures.0
-    c.if-x-lt128.true c.octet.ensures.0 c.if-n-lt63.false
+    c.if-x-lt128.true c.octet.ensures.0 c.if-low.false
     c.if-octet-eq128.true c.refused-then-octet-eq128.ensures
 
 pub returns-then-x-lt128 : goal.returns-then-x-lt128
 returns-then-x-lt128 c =
     long_found _ _ _ _ c.loop-i.invariant c.loop-i-test.true
     c.octet-x.ensures.0 c.octet-x.ensures.1 c.with_group-n.ensures.0
-    c.if-x-lt128.true c.octet.ensures.0 c.if-n-lt63.false
+    c.if-x-lt128.true c.octet.ensures.0 c.if-low.false
     c.if-octet-eq128.false c.found.ensures
 
 pub loop-i-smaller : goal.loop-i-smaller

@@ -13,19 +13,19 @@ pub returns-then-rows_in-eq0 : goal.returns-then-rows_in-eq0
 unfolding sizes_sound
 returns-then-rows_in-eq0 c = given_on _ (is_equal refl c.if-rows-ne0.false) (given_stop _ (is_none c.rows_in.ensures c.if-rows_in-eq0.true))
 
-pub returns-then-rows_in-gt256 : goal.returns-then-rows_in-gt256
+pub returns-then-many : goal.returns-then-many
 unfolding sizes_sound
-returns-then-rows_in-gt256 c =
+returns-then-many c =
     given_on _ (is_equal refl c.if-rows-ne0.false)
     (given_on _ (is_some c.rows_in.ensures c.if-rows_in-eq0.false)
-    (given_stop _ (not_most c.rows_in-2.ensures c.if-rows_in-gt256.true)))
+    (given_stop _ (not_most c.rows_in-many.ensures c.if-many.true)))
 
 pub returns-then-items-ne0 : goal.returns-then-items-ne0
 unfolding sizes_sound
 returns-then-items-ne0 c =
     given_on _ (is_equal refl c.if-rows-ne0.false)
     (given_on _ (is_some c.rows_in.ensures c.if-rows_in-eq0.false)
-    (given_on _ (is_most c.rows_in-2.ensures c.if-rows_in-gt256.false)
+    (given_on _ (is_most c.rows_in-many.ensures c.if-many.false)
     (given_stop _ (not_equal refl c.if-items-ne0.true))))
 
 pub returns : goal.returns
@@ -33,5 +33,5 @@ unfolding sizes_sound
 returns c =
     given_on _ (is_equal refl c.if-rows-ne0.false)
     (given_on _ (is_some c.rows_in.ensures c.if-rows_in-eq0.false)
-    (given_on _ (is_most c.rows_in-2.ensures c.if-rows_in-gt256.false)
+    (given_on _ (is_most c.rows_in-many.ensures c.if-many.false)
     (given_on _ (is_equal refl c.if-items-ne0.false) (rw c.items_in.ensures))))

@@ -8,15 +8,15 @@ pub returns-then-tag_class-ge4 : goal.returns-then-tag_class-ge4
 unfolding alternative_sound
 returns-then-tag_class-ge4 c = given_stop _ (not_less c.tag_class.ensures c.if-tag_class-ge4.true)
 
-pub returns-then-tag_number-gt2097151 : goal.returns-then-tag_number-gt2097151
+pub returns-then-wide : goal.returns-then-wide
 unfolding alternative_sound
-returns-then-tag_number-gt2097151 c =
+returns-then-wide c =
     given_on _ (is_less c.tag_class.ensures c.if-tag_class-ge4.false)
-    (given_stop _ (not_most c.tag_number.ensures c.if-tag_number-gt2097151.true))
+    (given_stop _ (not_most c.tag_number-wide.ensures c.if-wide.true))
 
 pub returns : goal.returns
 unfolding alternative_sound
 returns c =
     given_on _ (is_less c.tag_class.ensures c.if-tag_class-ge4.false)
-    (given_on _ (is_most c.tag_number.ensures c.if-tag_number-gt2097151.false)
+    (given_on _ (is_most c.tag_number-wide.ensures c.if-wide.false)
     (rw c.alternative_row.ensures))

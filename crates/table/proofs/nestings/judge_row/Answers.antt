@@ -11,12 +11,12 @@ returns-then-not-row_sound c = row_breaks _ _ _ _ _ (fails c.row_sound.ensures c
 pub row_nesting-deep-requires : goal.row_nesting-deep-requires
 row_nesting-deep-requires c = (c.requires.0, c.requires.1, holds c.row_sound.ensures c.if-not-row_sound.false)
 
-pub returns-then-deep-gt16 : goal.returns-then-deep-gt16
-returns-then-deep-gt16 c =
+pub returns-then-too_deep : goal.returns-then-too_deep
+returns-then-too_deep c =
     row_nests _ _ _ _ _ (holds c.row_sound.ensures c.if-not-row_sound.false) c.row_nesting-deep.ensures
-    c.if-deep-gt16.true
+    c.if-too_deep.true
 
 pub returns : goal.returns
 returns c =
     row_taken _ _ _ _ _ (holds c.row_sound.ensures c.if-not-row_sound.false) c.row_nesting-deep.ensures
-    c.if-deep-gt16.false refl
+    c.if-too_deep.false refl

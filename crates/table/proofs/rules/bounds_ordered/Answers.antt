@@ -10,12 +10,12 @@ returns-then-not-has_upper c =
     no_upper_lem _ _ _ c.has_lower.ensures c.if-not-has_lower.false c.has_upper.ensures
     c.if-not-has_upper.true
 
-pub returns-then-is_unsigned : goal.returns-then-is_unsigned
-returns-then-is_unsigned c =
+pub returns-then-unsigned : goal.returns-then-unsigned
+returns-then-unsigned c =
     order_unsigned _ _ _ c.has_lower.ensures c.if-not-has_lower.false c.has_upper.ensures
-    c.if-not-has_upper.false c.is_unsigned.ensures c.if-is_unsigned.true
+    c.if-not-has_upper.false c.is_unsigned-unsigned.ensures c.if-unsigned.true
 
-pub returns-else-is_unsigned : goal.returns-else-is_unsigned
-returns-else-is_unsigned c =
-    rw (c.rank_of.ensures, c.rank_of-else-is_unsigned.ensures)
-    (order_signed _ _ _ c.has_lower.ensures c.if-not-has_lower.false c.has_upper.ensures c.if-not-has_upper.false c.is_unsigned.ensures c.if-is_unsigned.false)
+pub returns-else-unsigned : goal.returns-else-unsigned
+returns-else-unsigned c =
+    rw (c.rank_of.ensures, c.rank_of-else-unsigned.ensures)
+    (order_signed _ _ _ c.has_lower.ensures c.if-not-has_lower.false c.has_upper.ensures c.if-not-has_upper.false c.is_unsigned-unsigned.ensures c.if-unsigned.false)
