@@ -55,7 +55,8 @@ fn survey_message(rows: &[u64], items: &[u64], row: usize, msg: &[u8]) -> Survey
     requires { SoundTable rows.now items.now × (row < length rows.now / row_width) }
     ensures { ValueAnswer (in_part 1 (read_message (type_of rows.now items.now row) msg.now)) result }
 {
-    if 65535 < msg.len() {
+    let long = 65535 < msg.len();
+    if long {
         return Surveyed::Refused(refusal(4, 1, 0));
     }
     let mut nodes = [0u64; 1];

@@ -5,8 +5,8 @@ use Rattle.decoding.proofs.Replying.{value_stop, value_got, message_long_lem, me
 use Rattle.decoding.proofs.Replying.{message_done}
 use Rattle.decoding.proofs.operations.survey_message.Goals as goal
 
-pub returns-then-msg-gt65535 : goal.returns-then-msg-gt65535
-returns-then-msg-gt65535 c = value_stop (message_long_lem _ _ c.if-msg-gt65535.true) c.refusal.ensures
+pub returns-then-long : goal.returns-then-long
+returns-then-long c = value_stop (message_long_lem _ _ c.if-long.true) c.refusal.ensures
 
 pub returns-then-left_over : goal.returns-then-left_over
 returns-then-left_over c =
