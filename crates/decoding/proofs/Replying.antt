@@ -9,7 +9,7 @@ use lib.ListN.{length, drop, length-drop, drop_of_length-le}
 use lib.Seq.{sets, sets-eq}
 use borrow.Author.Tests.{lt-ltb, le-ltb, le-leb, lt-leb, leb-true, ltb-true, ne_eqb}
 use Rattle.x696.specs.Outcome.{Outcome, refused, got, next, must}
-use Rattle.x696.proofs.OutcomeLaws.{next-inv, must-inv}
+use Rattle.x696.proofs.OutcomeLaws.{next_inv, must_inv}
 use Rattle.x696.specs.Value.{Val, node_width, size, nodes, contents}
 use Rattle.x696.proofs.ListLaws.{nodes_length}
 use Rattle.x696.specs.Types.{Ty}
@@ -191,9 +191,9 @@ value_known rows items row msg {v} e =
     then_inv _ _ e λ t was then.
     part_inv 1 _ then λ s o.
     let u = usable_inv (table_fault rows items) rows items row refl was in
-    must-inv _ _ _ _ o λ short q.
-    next-inv _ _ q λ w r reads last.
-    must-inv _ _ _ _ last λ _ z.
+    must_inv _ _ _ _ o λ short q.
+    next_inv _ _ q λ w r reads last.
+    must_inv _ _ _ _ last λ _ z.
     let qv : w ≡ v = cc in
     record {
       fault = u.fault;

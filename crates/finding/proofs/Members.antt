@@ -7,7 +7,7 @@ use native.Mathlib.Omega.{arith}
 use native.Mathlib.Nat.{add-zero, sub-zero}
 use lib.ListN.{get_or}
 use Rattle.x696.specs.Outcome.{Outcome, refused, got, next}
-use Rattle.x696.proofs.OutcomeLaws.{next-inv, refused_never}
+use Rattle.x696.proofs.OutcomeLaws.{next_inv, refused_never}
 use Rattle.x696.specs.Digits.{Below}
 use Rattle.x696.proofs.DigitsLaws.{below_split}
 use Rattle.x696.specs.Value.{Val, Vals, no_values, value, value_count}
@@ -93,8 +93,8 @@ module _ (rows items msg : List ℕ) (pre : ℕ) where
   unfolding members member_at member_mark member_row value_count
   components_many zero b g s {us} e = let q : no_values ≡ us = cc in rw (← q) refl
   components_many (suc i) b g s {us} e =
-      next-inv _ _ e λ v r₁ was then.
-      next-inv _ _ then λ ws r₂ was' then'.
+      next_inv _ _ e λ v r₁ was then.
+      next_inv _ _ then λ ws r₂ was' then'.
       let q : value v ws ≡ us = cc in
       rw (← q) (ap suc (components_many i _ (suc g) r₁ was'))
 
@@ -109,8 +109,8 @@ module _ (rows items msg : List ℕ) (pre : ℕ) where
       rw (← q, ← qr, add-zero b, add-zero g, sub-zero n) (joined_none _)
   components_split (suc i) zero b g s h e = absurd (omega arith)
   components_split (suc i) (suc n) b g s {us} {r} h e =
-      next-inv _ _ e λ v r₁ was then.
-      next-inv _ _ then λ ws r₂ was' then'.
+      next_inv _ _ e λ v r₁ was then.
+      next_inv _ _ then λ ws r₂ was' then'.
       let q : value v ws ≡ us = cc in
       let qr : r₂ ≡ r = cc in
       let one = presence_count (component_mark items g) in
@@ -131,8 +131,8 @@ module _ (rows items msg : List ℕ) (pre : ℕ) where
   unfolding members member_at member_mark member_row items_from encode_components own_octets
   components_octets zero b g s {us} {r} below e = let qr : s ≡ r = cc in rw (← qr) refl
   components_octets (suc i) b g s {us} {r} below e =
-      next-inv _ _ e λ v r₁ was then.
-      next-inv _ _ then λ ws r₂ was' then'.
+      next_inv _ _ e λ v r₁ was then.
+      next_inv _ _ then λ ws r₂ was' then'.
       let q : value v ws ≡ us = cc in
       let qr : r₂ ≡ r = cc in
       let m = component_mark items g in
@@ -197,8 +197,8 @@ module _ (f : Message → Outcome Message Val) where
   unfolding times value_count
   elements_many zero s {us} e = let q : no_values ≡ us = cc in rw (← q) refl
   elements_many (suc i) s {us} e =
-      next-inv _ _ e λ v r₁ was then.
-      next-inv _ _ then λ ws r₂ was' then'.
+      next_inv _ _ e λ v r₁ was then.
+      next_inv _ _ then λ ws r₂ was' then'.
       let q : value v ws ≡ us = cc in
       rw (← q) (ap suc (elements_many i r₁ was'))
 
@@ -211,8 +211,8 @@ module _ (f : Message → Outcome Message Val) where
       rw (← q, ← qr, sub-zero n) (joined_none _)
   elements_split (suc i) zero s h e = absurd (omega arith)
   elements_split (suc i) (suc n) s {us} {r} h e =
-      next-inv _ _ e λ v r₁ was then.
-      next-inv _ _ then λ ws r₂ was' then'.
+      next_inv _ _ e λ v r₁ was then.
+      next_inv _ _ then λ ws r₂ was' then'.
       let q : value v ws ≡ us = cc in
       let qr : r₂ ≡ r = cc in
       let en : suc n - suc i ≡ n - i = omega arith in
@@ -230,8 +230,8 @@ module _ (t : Ty) (end : ℕ) where
       let qr : s ≡ r = cc in
       rw (← q, ← qr) refl
   elements_octets (suc i) s {us} {r} below e =
-      next-inv _ _ e λ v r₁ was then.
-      next-inv _ _ then λ ws r₂ was' then'.
+      next_inv _ _ e λ v r₁ was then.
+      next_inv _ _ then λ ws r₂ was' then'.
       let q : value v ws ≡ us = cc in
       let qr : r₂ ≡ r = cc in
       let a = sound node_limit t end s below was in

@@ -8,7 +8,7 @@ use native.Mathlib.Omega.{arith}
 use native.Mathlib.Numerals.{add-one}
 use lib.ListN.{length, drop, length-append, length-drop}
 use Rattle.x696.specs.Outcome.{Outcome, refused, got, next, choose}
-use Rattle.x696.proofs.OutcomeLaws.{next-inv}
+use Rattle.x696.proofs.OutcomeLaws.{next_inv}
 use Rattle.x696.specs.Digits.{Below}
 use Rattle.x696.specs.Variable.{variable_unsigned, read_unsigned}
 use Rattle.x696.proofs.VariableLaws.{unsigned_sound}
@@ -82,7 +82,7 @@ module _ (rows items msg : List ℕ) (row at count : ℕ) (inside : at ≤ lengt
   pub past_elements : n ≤ i → (v : Val) (s : Message) → D ≡ got v s → child_at (type_of rows items row) v i ≡ no_child
   unfolding child_at
   past_elements h v s e =
-      next-inv _ _ (sym members_first ∙ e) λ vs r was then.
+      next_inv _ _ (sym members_first ∙ e) λ vs r was then.
       let count = elements_many F n S was in
       let k : node 11 n [] vs ≡ v = cc in
       rw (← k, type_is) (elements_none (type_of rows items inner) vs i (omega arith))

@@ -9,7 +9,7 @@ use lib.ListN.{length, drop}
 use lib.Dec.{eqb}
 use borrow.Author.Tests.{ne_eqb, eqb-true, eqb-false}
 use Rattle.x696.specs.Outcome.{Outcome, refused, got, next, must, choose}
-use Rattle.x696.proofs.OutcomeLaws.{next-inv, must-inv, refused_never, cases}
+use Rattle.x696.proofs.OutcomeLaws.{next_inv, must_inv, refused_never, cases}
 use Rattle.x696.specs.Value.{Val, Vals, value, same}
 use Rattle.x696.specs.Types.{Ty, missing}
 use Rattle.x696.specs.Read.{Message, message, times, counted, read, read_component}
@@ -102,7 +102,7 @@ module _ (rows items msg : List ℕ) (row m d pre b at count i : ℕ) (inside : 
       unfolding counted
       missing_opens e =
           opened_nowhere λ v s g.
-          must-inv _ _ _ _ (sym (missing_is t m d msg pre b at count inside marked x ex e) ∙ g) λ _ h.
+          must_inv _ _ _ _ (sym (missing_is t m d msg pre b at count inside marked x ex e) ∙ g) λ _ h.
           let q : missing m d t ≡ v = cc in
           rw (← q) (missing_childless m d t i)
 
@@ -138,8 +138,8 @@ module _ (rows items msg : List ℕ) (row m d pre b at count i : ℕ) (inside : 
                 behind = l.behind;
               };
           nowhere = λ e v s g.
-              next-inv _ _ (sym carried ∙ g) λ v₁ r₁ was then.
-              must-inv _ _ _ _ then λ _ h.
+              next_inv _ _ (sym carried ∙ g) λ v₁ r₁ was then.
+              must_inv _ _ _ _ then λ _ h.
               let q : v₁ ≡ v = cc in
               rw (← q) (w.nowhere e v₁ r₁ was);
           stopped = λ f e. refused_too (w.stopped f e);

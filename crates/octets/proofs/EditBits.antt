@@ -25,7 +25,7 @@ use Rattle.x696.proofs.Complete.{bit_lt, presence_length, presence_bits_lem}
 use Rattle.x696.proofs.ChildLaws.{no_component_lem, child_value_lem, child_replaced}
 use Rattle.x696.proofs.ChildFits.{with_child_fits, child_fits}
 use Rattle.x696.proofs.ChildOctets.{bits_hold, with_child_bits}
-use Rattle.x696.proofs.PathLaws.{same-found, step-inv}
+use Rattle.x696.proofs.PathLaws.{same_found, step_inv}
 use Rattle.x696.proofs.BeforeLaws.{components_before_kept, presence_same, child_before_kept}
 use Rattle.x696.proofs.BeforeLaws.{before_step, start_step, number_step, before_kept}
 use Rattle.x696.proofs.Locality.{before_part, spliced}
@@ -157,11 +157,11 @@ inner_bit_inside : (m d : ℕ) (t : Ty) (v : Val) (i : ℕ) (p : List ℕ) {m' d
     → preamble_start t v (i ∷ p) + bit_number t v (i ∷ p) / 8 < length (octets_before t v (i ∷ p))
 unfolding find_from
 inner_bit_inside m d t v i [] f e =
-    step-inv m d t v i [] e λ m₁ d₁ t₁ v₁ c q.
-    let c' = same-found (λ m d u x. child_at t v i ≡ child m d u x) q c in
+    step_inv m d t v i [] e λ m₁ d₁ t₁ v₁ c q.
+    let c' = same_found (λ m d u x. child_at t v i ≡ child m d u x) q c in
     first_bit_inside (with_child_fits f i c) i c'
 inner_bit_inside m d t v i (j ∷ p) f e =
-    step-inv m d t v i (j ∷ p) e λ m₁ d₁ t₁ v₁ c q.
+    step_inv m d t v i (j ∷ p) e λ m₁ d₁ t₁ v₁ c q.
     let inner = inner_bit_inside m₁ d₁ t₁ v₁ j p (child_fits (with_child_fits f i c) i c).0 q in
     let all = length-append (child_before t v i) (octets_before t₁ v₁ (j ∷ p)) in
     rw (before_step t v i c (j ∷ p), start_step t v i c j p, number_step t v i c j p) (omega (arith, inner, all))
@@ -192,12 +192,12 @@ inner_before_set : (m d : ℕ) (t : Ty) (v : Val) (p : List ℕ) {m' d' : ℕ} {
 unfolding find_from replace
 inner_before_set m d t v [] f e y = none_before t v y _
 inner_before_set m d t v (i ∷ []) f e y =
-    step-inv m d t v i [] e λ m₁ d₁ t₁ v₁ c q.
-    let c' = same-found (λ m d u x. child_at t v i ≡ child m d u x) q c in
+    step_inv m d t v i [] e λ m₁ d₁ t₁ v₁ c q.
+    let c' = same_found (λ m d u x. child_at t v i ≡ child m d u x) q c in
     first_before_set (with_child_fits f i c) i c' y
 inner_before_set m d t v (i ∷ j ∷ p) {m'} {d'} {u} f e y =
-    step-inv m d t v i (j ∷ p) e λ m₁ d₁ t₁ v₁ c q.
-    step-inv m₁ d₁ t₁ v₁ j p q λ m₂ d₂ t₂ v₂ c₂ q₂.
+    step_inv m d t v i (j ∷ p) e λ m₁ d₁ t₁ v₁ c q.
+    step_inv m₁ d₁ t₁ v₁ j p q λ m₂ d₂ t₂ v₂ c₂ q₂.
     let w = replace (j ∷ p) y v₁ in
     let carried = not (same y (missing (suc m') d' u)) in
     rw (

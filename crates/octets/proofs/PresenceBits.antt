@@ -10,7 +10,7 @@ use lib.ListN.{length, get_or, set, drop, replicate, get_or-append}
 use lib.Seq.{get_or-drop, set_at, get_or_at}
 use lib.Pow.{pow-add, high, low, field, mod-pow-add, mod-mod-pow, shr-shr, shl_lt, shr_lt}
 use Rattle.x696.specs.Outcome.{got}
-use Rattle.x696.proofs.OutcomeLaws.{next-inv, must-inv}
+use Rattle.x696.proofs.OutcomeLaws.{next_inv, must_inv}
 use Rattle.x696.specs.Digits.{digits, from_digits, Below}
 use Rattle.x696.proofs.DigitsLaws.{digits_length, digits_low, digits_from_digits, from_digits_lt, below_split}
 use Rattle.x696.proofs.LengthLaws.{run_sound}
@@ -50,8 +50,8 @@ pub bits_read : (n p at : ℕ) (msg : List ℕ) {bits r : List ℕ} → Below 8 
     → read_preamble n p (drop at msg) ≡ got bits r → (b : ℕ) → b < n → get_or bits b 0 ≡ bit_at msg at b
 unfolding read_preamble bit_at
 bits_read n p at msg {bits} below e b h =
-    next-inv _ _ e λ os r₁ was then.
-    must-inv _ _ _ _ then λ t q.
+    next_inv _ _ e λ os r₁ was then.
+    must_inv _ _ _ _ then λ t q.
     let a = run_sound p (bit_octets n) (drop at msg) was in
     let w : digits 1 n (from_digits 8 os / 2 ^ unused_bits n) ≡ bits = cc in
     let o : get_or os (b / 8) 0 ≡ get_or msg (at + b / 8) 0 =

@@ -9,7 +9,7 @@ use native.Mathlib.Omega.{arith}
 use lib.Dec.{eqb}
 use borrow.Author.Tests.{eqb-true, ne_eqb}
 use Rattle.x696.specs.Outcome.{choose}
-use Rattle.x696.proofs.OutcomeLaws.{choose-inv}
+use Rattle.x696.proofs.OutcomeLaws.{choose_inv}
 use Rattle.x696.specs.Real.{binary32, binary64}
 use Rattle.x696.specs.Value.{Val, node, Vals, no_values, value, absent, value_count, same_octets, same, sames}
 use Rattle.x696.specs.Leaf.{Leaf, boolean, null, integer, enumerated, real, octet_string, bit_string, visible_string}
@@ -99,7 +99,7 @@ module _ (rows : List ℕ) (r d : ℕ) where
   either : (k : ℕ) (x y : Unit {0} → Ty) → kind_of (x tt) ≡ k → OfKind (y tt)
       → OfKind (choose (eqb (row_kind rows r) k) x y)
   either k x y e f s =
-      choose-inv (eqb (row_kind rows r) k) x y refl
+      choose_inv (eqb (row_kind rows r) k) x y refl
       (λ t u. ap kind_of (sym u) ∙ e ∙ sym (eqb-true _ k t))
       (λ t u. ap kind_of (sym u) ∙ f (ap (λ z. default_sound z d) u ∙ s))
 

@@ -9,7 +9,7 @@ use lib.ListN.{length}
 use borrow.Author.Tests.{leb-true}
 use Rattle.x696.specs.Outcome.{choose}
 use Rattle.x696.specs.Table.{row_width}
-use Rattle.x696.proofs.TableTests.{given-inv}
+use Rattle.x696.proofs.TableTests.{given_inv}
 use Rattle.x696.specs.TableFault.{TableFault as Meant, sound, bad_size, bad_row, sizes_sound, table_fault}
 use Rattle.x696.specs.Reply.{refusal_reply, done_reply}
 use Rattle.x696.specs.Operations.{check_reply, check}
@@ -29,9 +29,9 @@ module _ (rows items : List ℕ) where
     pub few_rows_lem : (n ≤ length rows / row_width) × (n ≤ 256)
     unfolding sizes_sound
     few_rows_lem =
-        given-inv _ _ e λ _ t.
-        given-inv _ _ t λ _ t.
-        given-inv _ _ t λ few _.
+        given_inv _ _ e λ _ t.
+        given_inv _ _ t λ _ t.
+        given_inv _ _ t λ few _.
         (omega arith, rw isCount (leb-true _ 256 few))
 
     module _ {ns : List ℕ} {r : Judged} (j : Judges rows items n ns r) where

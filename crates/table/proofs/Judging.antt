@@ -13,12 +13,12 @@ use Rattle.x696.specs.Outcome.{choose}
 use Rattle.x696.proofs.OutcomeLaws.{cases, cases_lt}
 use Rattle.x696.specs.TableCheck.{given, greatest}
 use Rattle.x696.specs.SoundTable.{Each}
-use Rattle.x696.proofs.TableTests.{each_first, each_later, given-inv}
+use Rattle.x696.proofs.TableTests.{each_first, each_later, given_inv}
 use Rattle.x696.specs.TableFault.{TableFault, sound, bad_size, bad_row, row_sound, row_nesting, rows_fault}
 use Rattle.x696.specs.SoundTable.{nestings_of}
 use Rattle.x696.proofs.TableKinds.{no_group}
 use Rattle.x696.proofs.TableNesting.{nestings_at}
-use Rattle.x696.proofs.TableRows.{kind-cases, sequence_row, choice_row}
+use Rattle.x696.proofs.TableRows.{kind_cases, sequence_row, choice_row}
 use Rattle.table.proofs.Nested.{element_lower}
 use Rattle.table.specs.declared.nestings.Judged.{Judged}
 use Rattle.table.specs.Judged.{kept, JudgesRow, Judges}
@@ -58,7 +58,7 @@ module _ (rows items : List ℕ) where
     nesting_agree : row_sound rows items row ≡ true → row_nesting rows items ns row ≡ row_nesting rows items ms row
     unfolding row_nesting choose
     nesting_agree s =
-        kind-cases rows items row s
+        kind_cases rows items row s
         (λ k. let no = no_group rows row k in rw (no 10 (omega arith), no 11 (omega arith), no 12 (omega arith)))
         (λ k.
         let r = sequence_row rows items row s k in
@@ -129,7 +129,7 @@ module _ (rows items : List ℕ) where
       last_sound b = rw (rows_more n (j.takes good), sym same ∙ (last.takes b).0)
 
       sound_last : bad ≡ false → row_sound rows items n ≡ true
-      sound_last b = given-inv _ _ (last.takes b).0 λ s _. s
+      sound_last b = given_inv _ _ (last.takes b).0 λ s _. s
 
       sound_more : bad ≡ false → SoundBelow rows items (suc n)
       sound_more b k h =

@@ -9,7 +9,7 @@ use native.Mathlib.Omega.{arith}
 use lib.ListN.{replicate}
 use lib.Seq.{sets}
 use Rattle.x696.specs.Outcome.{Outcome, refused, got, next}
-use Rattle.x696.proofs.OutcomeLaws.{next-inv}
+use Rattle.x696.proofs.OutcomeLaws.{next_inv}
 use Rattle.x696.specs.Bits.{bit_octets}
 use Rattle.x696.proofs.BitsLaws.{preamble_none}
 use Rattle.x696.specs.Value.{Val, Vals, no_values, value, only}
@@ -61,7 +61,7 @@ module _ (t : Ty) where
   unfolding times encode copies carried_octets each
   copies_each zero s e = got_same (SameOctets zero) e refl
   copies_each (suc n) s e =
-      next-inv _ _ e λ v q was then. next-inv _ _ then λ vs r was' then'.
+      next_inv _ _ e λ v q was then. next_inv _ _ then λ vs r was' then'.
       got_same (SameOctets (suc n)) then' (ap (λ (os : List ℕ). encode t v ++ os) (copies_each n q was'))
 
   pub copies_octets : (n : ℕ) (s : Listed) {vs : Vals} {r : Listed} → walk_components (copies n t) s ≡ got vs r
@@ -89,7 +89,7 @@ alone rows items inner {ws} {cs} {n} {u} x =
     record {
       went = λ c e.
           let g = x.went c e in
-          next-inv _ _ (sym (alone_first t s) ∙ g.walks) λ v q was then.
+          next_inv _ _ (sym (alone_first t s) ∙ g.walks) λ v q was then.
           let is : only v ≡ g.what = cc in
           let rest : q ≡ listed_at ws cs c.at c.used = cc in
           let os : group_octets (copies 1 t) g.what ≡ encode t v =

@@ -10,7 +10,7 @@ use lib.ListN.{length, drop}
 use lib.Dec.{ltb, eqb}
 use borrow.Author.Tests.{lt-ltb, le-ltb, eq-eqb, ne_eqb, ltb-true, eqb-true, eqb-false}
 use Rattle.x696.specs.Outcome.{refused, got, next, must, choose}
-use Rattle.x696.proofs.OutcomeLaws.{next-inv, must-inv, refused_never, cases, cases_lt, and_both}
+use Rattle.x696.proofs.OutcomeLaws.{next_inv, must_inv, refused_never, cases, cases_lt, and_both}
 use Rattle.x696.specs.Value.{Val, node, Vals, no_values, node_width, same}
 use Rattle.x696.proofs.ValueLaws.{same_refl}
 use Rattle.x696.specs.Leaf.{Leaf, boolean, null, integer, enumerated, real, octet_string, bit_string, visible_string}
@@ -50,23 +50,23 @@ HasNode k n v r = (os : List ℕ) × (vs : Vals) × (v ≡ node k n os vs)
 leaf_node : (l : Leaf) (p n : ℕ) (s : Listed) {v : Val} {r : Listed} → walk_leaf l p n s ≡ got v r
     → HasNode (leaf_kind l) n v r
 unfolding walk_leaf leaf_kind
-leaf_node boolean p n s e = must-inv _ _ _ _ e λ t q. got_same (HasNode 1 n) q ([], no_values, refl)
-leaf_node null p n s e = must-inv _ _ _ _ e λ t q. got_same (HasNode 6 n) q ([], no_values, refl)
-leaf_node (integer f a b) p n s e = must-inv _ _ _ _ e λ t q. got_same (HasNode 2 n) q ([], no_values, refl)
-leaf_node (enumerated ns) p n s e = must-inv _ _ _ _ e λ t q. got_same (HasNode 3 n) q ([], no_values, refl)
+leaf_node boolean p n s e = must_inv _ _ _ _ e λ t q. got_same (HasNode 1 n) q ([], no_values, refl)
+leaf_node null p n s e = must_inv _ _ _ _ e λ t q. got_same (HasNode 6 n) q ([], no_values, refl)
+leaf_node (integer f a b) p n s e = must_inv _ _ _ _ e λ t q. got_same (HasNode 2 n) q ([], no_values, refl)
+leaf_node (enumerated ns) p n s e = must_inv _ _ _ _ e λ t q. got_same (HasNode 3 n) q ([], no_values, refl)
 leaf_node (real w) p n s e =
-    must-inv _ _ _ _ e λ t g. must-inv _ _ _ _ g λ u q. got_same (HasNode (leaf_kind (real w)) n) q (
+    must_inv _ _ _ _ e λ t g. must_inv _ _ _ _ g λ u q. got_same (HasNode (leaf_kind (real w)) n) q (
       [],
       no_values,
       refl,
     )
 leaf_node (octet_string f a b) p n s e =
-    next-inv _ _ e λ os r was then. must-inv _ _ _ _ then λ t q. got_same (HasNode 7 n) q (os, no_values, refl)
+    next_inv _ _ e λ os r was then. must_inv _ _ _ _ then λ t q. got_same (HasNode 7 n) q (os, no_values, refl)
 leaf_node (bit_string f a b) p n s e =
-    next-inv _ _ e λ os r was then. must-inv _ _ _ _ then λ t g. must-inv _ _ _ _ g λ u q.
+    next_inv _ _ e λ os r was then. must_inv _ _ _ _ then λ t g. must_inv _ _ _ _ g λ u q.
     got_same (HasNode 8 n) q (os, no_values, refl)
 leaf_node (visible_string f a b) p n s e =
-    next-inv _ _ e λ os r was then. must-inv _ _ _ _ then λ t g. must-inv _ _ _ _ g λ u q.
+    next_inv _ _ e λ os r was then. must_inv _ _ _ _ then λ t g. must_inv _ _ _ _ g λ u q.
     got_same (HasNode 9 n) q (os, no_values, refl)
 
 behind_node : (t : Ty) (p n : ℕ) (s : Listed) {v : Val} {r : Listed} → walk_behind t p n s ≡ got v r
@@ -74,10 +74,10 @@ behind_node : (t : Ty) (p n : ℕ) (s : Listed) {v : Val} {r : Listed} → walk_
 unfolding walk_behind kind_of
 behind_node (leaf l) p n s e = leaf_node l p n s e
 behind_node (sequence is) p n s e =
-    must-inv _ _ _ _ e λ t g. next-inv _ _ g λ vs r was q. got_same (HasNode 10 n) q ([], vs, refl)
-behind_node (sequence_of t) p n s e = next-inv _ _ e λ vs r was q. got_same (HasNode 11 n) q ([], vs, refl)
+    must_inv _ _ _ _ e λ t g. next_inv _ _ g λ vs r was q. got_same (HasNode 10 n) q ([], vs, refl)
+behind_node (sequence_of t) p n s e = next_inv _ _ e λ vs r was q. got_same (HasNode 11 n) q ([], vs, refl)
 behind_node (choice is) p n s e =
-    must-inv _ _ _ _ e λ t g. next-inv _ _ g λ v r was q. got_same (HasNode 12 n) q ([], _, refl)
+    must_inv _ _ _ _ e λ t g. next_inv _ _ g λ v r was q. got_same (HasNode 12 n) q ([], _, refl)
 
 -- ---- a component's node
 module _ (t : Ty) (ws cs : List ℕ) (n u : ℕ) (d : ℕ) where

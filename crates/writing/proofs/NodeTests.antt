@@ -11,7 +11,7 @@ use lib.Seq.{drop-cons}
 use lib.Dec.{eqb}
 use borrow.Author.Tests.{eq-eqb, ne_eqb, eqb-true, eqb-false}
 use Rattle.x696.specs.Outcome.{refused, got, next, must, choose}
-use Rattle.x696.proofs.OutcomeLaws.{choose-inv}
+use Rattle.x696.proofs.OutcomeLaws.{choose_inv}
 use Rattle.x696.specs.Value.{node_width}
 use Rattle.x696.specs.Leaf.{leaf_kind, real_kind}
 use Rattle.x696.specs.Types.{Ty, leaf, sequence, sequence_of, choice, kind_of}
@@ -67,7 +67,7 @@ module _ (rows items : List ℕ) (r : ℕ) where
   either : (k : ℕ) (x y : Unit {0} → Ty) → kind_of (x tt) ≡ k → ((row_kind rows r ≡ k → ⊥) → OfKind (y tt))
       → OfKind (choose (eqb (row_kind rows r) k) x y)
   either k x y e f =
-      choose-inv (eqb (row_kind rows r) k) x y refl
+      choose_inv (eqb (row_kind rows r) k) x y refl
       (λ t u. ap kind_of (sym u) ∙ e ∙ sym (eqb-true _ k t))
       (λ t u. ap kind_of (sym u) ∙ f (eqb-false _ k t))
 

@@ -7,7 +7,7 @@ use Rattle.std.proofs.Common.{ap, ⊎_elim, arith, length-append}
 use mathlib.Core.List.{List, [], ◌∷◌}
 use Prim.Native.Nat.{ℕ, zero, suc, ◌+◌, ◌/◌, ◌<◌, ◌≤◌}
 use Rattle.std.proofs.lemmas.Bool.{eqb-false}
-use Rattle.x696.proofs.OutcomeLaws.{choose-inv}
+use Rattle.x696.proofs.OutcomeLaws.{choose_inv}
 use Rattle.x696.specs.Digits.{Below}
 use Rattle.x696.proofs.Ends.{Ends, reads, next_ends, must_ends, must_ends_if, ends_at, ends_weaker}
 use Rattle.x696.proofs.Refusals.{FaultIn, read_refusals}
@@ -39,14 +39,14 @@ module _ (rows items : List ℕ) where
   unfolding rows_fault
   rows_faulty r zero ns e = let z : ◌≡◌ {A = ℕ} 0 1 = cc in absurd (omega arith)
   rows_faulty r (suc n) ns {k} e =
-      choose-inv _ _ _ e
+      choose_inv _ _ _ e
       (λ _ q. let h = rows_faulty (suc r) n _ q in omega arith)
       (λ _ q. let same : r ≡ k = cc in omega arith)
 
   pub table_faulty : {k : ℕ} → table_fault rows items ≡ bad_row k → k < length rows / row_width
   unfolding table_fault
   table_faulty e =
-      choose-inv _ _ _ e
+      choose_inv _ _ _ e
       (λ _ q. let h = rows_faulty 0 (length rows / row_width) [] q in omega arith)
       (λ _ q. let z : ◌≡◌ {A = ℕ} 0 1 = cc in absurd (omega arith))
 

@@ -77,11 +77,11 @@ room_nonzero n q p no_room = omega arith
 
 -- an answer whose number is that of DONE hands something out
 module _ {A B : Type 0} {R : Family} where
-  pub answers-done {ℓ} : {a : Answer A} {X : Type ℓ} → Answers R a → Nonzero R → (number : B → ℕ)
+  pub answers_done {ℓ} : {a : Answer A} {X : Type ℓ} → Answers R a → Nonzero R → (number : B → ℕ)
       → (refuse : (number part place : ℕ) → B) → (hand : A → B) → ((n q p : ℕ) → number (refuse n q p) ≡ n)
       → number (answer a refuse hand) ≡ 0
       → ((x : A) → a ≡ done x → X) → X
   unfolding answer
-  answers-done (refused_by {n = n} {q = q} {p = p} h) z number refuse hand is e f =
+  answers_done (refused_by {n = n} {q = q} {p = p} h) z number refuse hand is e f =
       absurd (omega (arith, z n q p h, is n q p))
-  answers-done (hands {a = a}) z number refuse hand is e f = f a refl
+  answers_done (hands {a = a}) z number refuse hand is e f = f a refl

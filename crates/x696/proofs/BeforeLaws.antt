@@ -17,7 +17,7 @@ use Rattle.x696.specs.Path.{child_before, octets_before}
 use Rattle.x696.specs.PresencePlace.{preamble_start, bit_number, presence_bit}
 use Rattle.x696.proofs.ChildLaws.{no_component_lem, child_value_lem, child_replaced, child_same}
 use Rattle.x696.proofs.ChildOctets.{bits_hold, with_child_bits}
-use Rattle.x696.proofs.PathLaws.{same-found, step-inv}
+use Rattle.x696.proofs.PathLaws.{same_found, step_inv}
 
 -- ---- one step
 -- what stands before a component does not depend on it, nor on those behind it
@@ -98,11 +98,11 @@ module _ {m' d' : ℕ} {u : Ty} {x : Val} (y : Val) where
       → presence_bits m d t (replace p y v) ≡ presence_bits m d t v
   unfolding find_from replace
   inner_bits m d t v [] e s =
-      same-found
+      same_found
       (λ m' d' u x. presence_bits m' d' u y ≡ presence_bits m' d' u x → presence_bits m d t y ≡ presence_bits m d t v) e
       (λ s. s) s
   inner_bits m d t v (i ∷ p) e s =
-      step-inv m d t v i p e λ m₁ d₁ t₁ v₁ c q.
+      step_inv m d t v i p e λ m₁ d₁ t₁ v₁ c q.
       with_child_bits m d t v i c (replace p y (child_value i v))
 
   inner_before_kept : (m d : ℕ) (t : Ty) (v : Val) (p : List ℕ) → find_from m d t v p ≡ found m' d' u x
@@ -111,7 +111,7 @@ module _ {m' d' : ℕ} {u : Ty} {x : Val} (y : Val) where
   unfolding find_from replace octets_before through
   inner_before_kept m d t v [] e s = refl
   inner_before_kept m d t v (i ∷ p) e s =
-      step-inv m d t v i p e λ m₁ d₁ t₁ v₁ c q.
+      step_inv m d t v i p e λ m₁ d₁ t₁ v₁ c q.
       rw (
         child_value_lem t v i c,
         child_replaced t v i c (replace p y v₁),
@@ -125,7 +125,7 @@ module _ {m' d' : ℕ} {u : Ty} {x : Val} (y : Val) where
   unfolding find_from replace octets_before through
   inner_before_length m d t v [] e = refl
   inner_before_length m d t v (i ∷ p) e =
-      step-inv m d t v i p e λ m₁ d₁ t₁ v₁ c q.
+      step_inv m d t v i p e λ m₁ d₁ t₁ v₁ c q.
       let w = replace p y v₁ in
       rw (
         child_value_lem t v i c,
@@ -144,7 +144,7 @@ module _ {m' d' : ℕ} {u : Ty} {x : Val} (y : Val) where
   inner_start_kept m d t v [] e = refl
   inner_start_kept m d t v (i ∷ []) e = refl
   inner_start_kept m d t v (i ∷ j ∷ p) e =
-      step-inv m d t v i (j ∷ p) e λ m₁ d₁ t₁ v₁ c q.
+      step_inv m d t v i (j ∷ p) e λ m₁ d₁ t₁ v₁ c q.
       let w = replace (j ∷ p) y v₁ in
       rw (child_value_lem t v i c)
       (start_step t (replace_child i w v) i (child_replaced t v i c w) j p ∙
@@ -157,7 +157,7 @@ module _ {m' d' : ℕ} {u : Ty} {x : Val} (y : Val) where
   inner_number_kept m d t v [] e = refl
   inner_number_kept m d t v (i ∷ []) e = refl
   inner_number_kept m d t v (i ∷ j ∷ p) e =
-      step-inv m d t v i (j ∷ p) e λ m₁ d₁ t₁ v₁ c q.
+      step_inv m d t v i (j ∷ p) e λ m₁ d₁ t₁ v₁ c q.
       let w = replace (j ∷ p) y v₁ in
       rw (child_value_lem t v i c)
       (number_step t (replace_child i w v) i (child_replaced t v i c w) j p ∙

@@ -5,7 +5,7 @@ use Rattle.std.proofs.Common.{ap, sym, ◌∙◌, one-mul, arith, shl_lt, shr_lt
 use Rattle.std.proofs.lemmas.Nat.{shl-shr}
 use Rattle.std.proofs.Math.Pow.{split, low}
 use Rattle.x696.specs.Outcome.{got, next, must}
-use Rattle.x696.proofs.OutcomeLaws.{next-inv, must-inv}
+use Rattle.x696.proofs.OutcomeLaws.{next_inv, must_inv}
 use Rattle.x696.specs.Digits.{digits, from_digits, Below}
 use Rattle.x696.proofs.DigitsLaws.{digits_length, digits_below, from_digits_lt, digits_from_digits}
 use Rattle.x696.proofs.DigitsLaws.{from_digits_digits, below_split}
@@ -53,8 +53,8 @@ pub preamble_sound : (n p : ℕ) (s : List ℕ) {bs r : List ℕ} → Below 8 s 
     → (s ≡ preamble n bs ++ r) × (length bs ≡ n) × Below 1 bs
 unfolding read_preamble preamble low_bits_clear
 preamble_sound n p s {bs} {r} b e =
-    next-inv _ _ e λ os r₁ was then.
-    must-inv _ _ _ _ then λ t q.
+    next_inv _ _ e λ os r₁ was then.
+    must_inv _ _ _ _ then λ t q.
     let a = run_sound p (bit_octets n) s was in
     let bo = (below_split 8 os r₁ b a.0).0 in
     let w : digits 1 n (from_digits 8 os / 2 ^ unused_bits n) ≡ bs = cc in

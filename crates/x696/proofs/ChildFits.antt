@@ -9,7 +9,7 @@ use Rattle.x696.specs.Fits.{Fits, leaf_fits, sequence_fits, sequence_of_fits, ch
 use Rattle.x696.specs.Fits.{FitsComponent, plain, carried, left_out, FitComponents, no_components, component}
 use Rattle.x696.specs.Fits.{FitAll, no_elements, element, FitsAlternative, this, later}
 use Rattle.x696.specs.Path.{child, component_at, element_at, alternative_at, child_at, replace_at, replace_child}
-use Rattle.x696.proofs.ChildLaws.{no_component_lem, same-component, missing_childless, with_child_differs}
+use Rattle.x696.proofs.ChildLaws.{no_component_lem, same_component, missing_childless, with_child_differs}
 
 -- a component, and a whole with any other in its place
 abbrev pub FitsIn : (whole : Val → Type 0) → (mark default : ℕ) → Ty → Val → Type 0
@@ -22,20 +22,20 @@ components_fit : {is : Items} {vs : Vals} → FitComponents is vs → (i : ℕ) 
     → component_at is vs i ≡ child m d u x → FitsIn (λ y. FitComponents is (replace_at i y vs)) m d u x
 unfolding component_at replace_at
 components_fit no_components i e = absurd (no_component_lem e)
-components_fit (component f h) zero e = same-component (FitsIn _) e (f, λ y g. component g h)
+components_fit (component f h) zero e = same_component (FitsIn _) e (f, λ y g. component g h)
 components_fit (component f h) (suc i) e = let k = components_fit h i e in (k.0, λ y g. component f (k.1 y g))
 
 elements_fit : {t : Ty} {vs : Vals} → FitAll t vs → (i : ℕ) {m d : ℕ} {u : Ty} {x : Val}
     → element_at t vs i ≡ child m d u x → FitsIn (λ y. FitAll t (replace_at i y vs)) m d u x
 unfolding element_at replace_at
 elements_fit no_elements i e = absurd (no_component_lem e)
-elements_fit (element f h) zero e = same-component (FitsIn _) e (plain f, λ y g. element (unplain g) h)
+elements_fit (element f h) zero e = same_component (FitsIn _) e (plain f, λ y g. element (unplain g) h)
 elements_fit (element f h) (suc i) e = let k = elements_fit h i e in (k.0, λ y g. element f (k.1 y g))
 
 alternative_fits : {is : Items} {n : ℕ} {v : Val} → FitsAlternative is n v → (i : ℕ) {m d : ℕ} {u : Ty} {x : Val}
     → alternative_at is n (only v) i ≡ child m d u x → (0 ≡ i) × FitsIn (FitsAlternative is n) m d u x
 unfolding alternative_at
-alternative_fits (this f) zero e = (refl, same-component (FitsIn _) e (plain f, λ y g. this (unplain g)))
+alternative_fits (this f) zero e = (refl, same_component (FitsIn _) e (plain f, λ y g. this (unplain g)))
 alternative_fits (this f) (suc i) e = absurd (no_component_lem e)
 alternative_fits (later h) i e = let k = alternative_fits h i e in (k.0, (k.1.0, λ y g. later (k.1.1 y g)))
 

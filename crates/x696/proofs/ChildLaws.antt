@@ -15,9 +15,9 @@ pub no_component_lem : {m d : ℕ} {t : Ty} {v : Val} → no_child ≡ child m d
 no_component_lem e = let z : ◌≡◌ {A = ℕ} 0 1 = cc in omega arith
 
 -- what holds of a component holds of the same component
-pub same-component {ℓ} : (P : (mark default : ℕ) → Ty → Val → Type ℓ) {m d m' d' : ℕ} {t t' : Ty} {v v' : Val}
+pub same_component {ℓ} : (P : (mark default : ℕ) → Ty → Val → Type ℓ) {m d m' d' : ℕ} {t t' : Ty} {v v' : Val}
     → child m d t v ≡ child m' d' t' v' → P m d t v → P m' d' t' v'
-same-component P {m} {d} {m'} {d'} {t} {t'} {v} {v'} e h =
+same_component P {m} {d} {m'} {d'} {t} {t'} {v} {v'} e h =
     let a : m ≡ m' = cc in
     let b : d ≡ d' = cc in
     let c : t ≡ t' = cc in
@@ -36,7 +36,7 @@ unfolding component_at value_count value_at replace_at
 component_held no_items vs i e = absurd (no_component_lem e)
 component_held (item m d t is) no_values i e = absurd (no_component_lem e)
 component_held (item m d t is) (value v vs) zero e =
-    same-component (Held _ _ 0) e (record { there = omega arith; its = refl; new = λ y. refl })
+    same_component (Held _ _ 0) e (record { there = omega arith; its = refl; new = λ y. refl })
 component_held (item m d t is) (value v vs) (suc i) e =
     let h = component_held is vs i e in
     record { there = omega arith; its = h.its; new = h.new }
@@ -46,7 +46,7 @@ element_held : (t : Ty) (vs : Vals) (i : ℕ) {m d : ℕ} {u : Ty} {x : Val} →
 unfolding element_at value_count value_at replace_at
 element_held t no_values i e = absurd (no_component_lem e)
 element_held t (value v vs) zero e =
-    same-component (Held _ _ 0) e (record { there = omega arith; its = refl; new = λ y. refl })
+    same_component (Held _ _ 0) e (record { there = omega arith; its = refl; new = λ y. refl })
 element_held t (value v vs) (suc i) e =
     let h = element_held t vs i e in
     record { there = omega arith; its = h.its; new = h.new }
@@ -57,7 +57,7 @@ unfolding alternative_at value_count value_at replace_at
 alternative_held no_items n vs i e = absurd (no_component_lem e)
 alternative_held (item a b t is) n no_values i e = absurd (no_component_lem e)
 alternative_held (item a b t is) zero (value v vs) zero e =
-    same-component (Held _ _ 0) e (record { there = omega arith; its = refl; new = λ y. refl })
+    same_component (Held _ _ 0) e (record { there = omega arith; its = refl; new = λ y. refl })
 alternative_held (item a b t is) zero (value v vs) (suc i) e = absurd (no_component_lem e)
 alternative_held (item a b t is) (suc n) (value v vs) zero e =
     let h = alternative_held is n (value v vs) 0 e in

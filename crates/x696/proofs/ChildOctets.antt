@@ -18,7 +18,7 @@ use Rattle.x696.specs.Path.{components_before, elements_before, child_before}
 use Rattle.x696.specs.PresencePlace.{marks_before}
 use Rattle.x696.proofs.Complete.{presence_bits_length}
 use Rattle.x696.specs.Frame.{Frame, leading, filled}
-use Rattle.x696.proofs.ChildLaws.{no_component_lem, same-component, child_replaced, child_same, with_child_differs}
+use Rattle.x696.proofs.ChildLaws.{no_component_lem, same_component, child_replaced, child_same, with_child_differs}
 
 -- octets, or bits, that hold those of a component, whatever its value
 pub record Holds (whole part : Val → List ℕ) (before : List ℕ) : Type 0 where
@@ -40,7 +40,7 @@ unfolding component_at replace_at encode_components own_octets components_before
 components_hold no_items vs i e = absurd (no_component_lem e)
 components_hold (item m d t is) no_values i e = absurd (no_component_lem e)
 components_hold (item m d t is) (value v vs) zero e =
-    same-component (HoldsOwn _ _) e
+    same_component (HoldsOwn _ _) e
     (record { after = encode_components is vs; held = λ y. refl })
 components_hold (item m d t is) (value v vs) (suc i) e = behind (own_octets m d t v) (components_hold is vs i e)
 
@@ -54,7 +54,7 @@ unfolding component_at replace_at presence marks_before
 bits_hold no_items vs i e = absurd (no_component_lem e)
 bits_hold (item m d t is) no_values i e = absurd (no_component_lem e)
 bits_hold (item m d t is) (value v vs) zero e =
-    same-component (HoldsBit _ _) e
+    same_component (HoldsBit _ _) e
     ([], refl, record { after = presence is vs; held = λ y. refl })
 bits_hold (item m d t is) (value v vs) (suc i) e =
     let (left, n, h) = bits_hold is vs i e in
@@ -67,7 +67,7 @@ elements_hold : (t : Ty) (vs : Vals) (i : ℕ) {m d : ℕ} {u : Ty} {x : Val} �
 unfolding element_at replace_at each own_octets carried_octets elements_before
 elements_hold t no_values i e = absurd (no_component_lem e)
 elements_hold t (value v vs) zero e =
-    same-component (HoldsOwn _ _) e
+    same_component (HoldsOwn _ _) e
     (record { after = each (λ v. encode t v) vs; held = λ y. refl })
 elements_hold t (value v vs) (suc i) e = behind (encode t v) (elements_hold t vs i e)
 
@@ -78,7 +78,7 @@ unfolding alternative_at replace_at encode_alternative own_octets carried_octets
 alternative_holds no_items n vs i e = absurd (no_component_lem e)
 alternative_holds (item a b t is) n no_values i e = absurd (no_component_lem e)
 alternative_holds (item a b t is) zero (value v vs) zero e =
-    same-component (HoldsOwn _ _) e
+    same_component (HoldsOwn _ _) e
     (record { after = []; held = λ y. rw (append-nil (encode t y)) })
 alternative_holds (item a b t is) zero (value v vs) (suc i) e = absurd (no_component_lem e)
 alternative_holds (item a b t is) (suc n) (value v vs) zero e = alternative_holds is n (value v vs) zero e

@@ -15,7 +15,7 @@ use Rattle.x696.specs.Operations.{value_in}
 use Rattle.x696.specs.Edits.{Edits}
 use Rattle.x696.specs.Component.{part, Component, Kept}
 use Rattle.x696.proofs.Unique.{read_message_iff}
-use Rattle.x696.proofs.AskedLaws.{held-value, same_done}
+use Rattle.x696.proofs.AskedLaws.{held_value, same_done}
 use Rattle.x696.proofs.PathLaws.{others_keep}
 use Rattle.x696.proofs.Locality.{stands}
 use Rattle.x696.proofs.OrderLaws.{paths_ordered, ahead_stays, behind_moves}
@@ -37,7 +37,7 @@ module _ (rows items : List ℕ) (r : ℕ) where
       → value_in rows items r s ≡ done v → find T v p ≡ found m d u x
       → Component rows items r s p m d u x (length (octets_before T v p))
   component_found s v p words octets reads e =
-      held-value rows items r s v words reads λ g usable end h.
+      held_value rows items r s v words reads λ g usable end h.
       component_encoded s v p reads ((read_message_iff T s v end octets).0 h).1 e
 
   -- components stand in the order of their paths, one behind the other

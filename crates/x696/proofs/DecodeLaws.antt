@@ -20,7 +20,7 @@ use Rattle.x696.specs.Reply.{refusal, done, then, answer, unless, in_part}
 use Rattle.x696.specs.Operations.{node_limit, octet_limit, read_message, walk_list, over}
 use Rattle.x696.specs.Operations.{value_in, decodable, decode}
 use Rattle.x696.specs.Result.{is_done, decoded}
-use Rattle.x696.proofs.AskedLaws.{asked-cases, outcome-cases}
+use Rattle.x696.proofs.AskedLaws.{asked_cases, outcome_cases}
 use Rattle.x696.proofs.Unique.{read_message_iff}
 use Rattle.x696.proofs.ListLaws.{nodes_length, walk_list_complete}
 use Rattle.x696.proofs.ContentsLaws.{contents_length}
@@ -81,10 +81,10 @@ module _ (rows items : List ℕ) (r : ℕ) (s ns os : List ℕ) where
   unfolding value_in then in_part
   decode_answers words octets room room' =
       let t = type_of rows items r in
-      asked-cases rows items r words
+      asked_cases rows items r words
       (λ k z e. decoded_none (suc k) 0 z (rw e) (omega arith))
       λ g usable.
-      outcome-cases (read_message t s)
+      outcome_cases (read_message t s)
       (λ n z e. decoded_none n 1 z (rw (usable, e)) (omega arith))
       λ v end e.
       let (f, whole, few, short, rest) = (read_message_iff t s v end octets).0 e in

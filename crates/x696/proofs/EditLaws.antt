@@ -25,7 +25,7 @@ use Rattle.x696.specs.Operations.{value_in, validate, Written, written}
 use Rattle.x696.specs.Editing.{place_of, place_in, edited, edited_octets, edit}
 use Rattle.x696.specs.Result.{is_done, result_of}
 use Rattle.x696.specs.Edits.{Edits}
-use Rattle.x696.proofs.AskedLaws.{asked-cases, outcome-cases, held-value}
+use Rattle.x696.proofs.AskedLaws.{asked_cases, outcome_cases, held_value}
 use Rattle.x696.proofs.Unique.{read_message_iff}
 use Rattle.x696.proofs.ListLaws.{walk_list_complete, walk_list_sound}
 use Rattle.x696.proofs.PathLaws.{find_fits, replace_fits, find_replaced, replace_same, replace_undone}
@@ -160,7 +160,7 @@ module _ (rows items : List ℕ) (r : ℕ) (s p ws cs out : List ℕ) (words : B
   found_done g usable v end e (nowhere n) q d =
       absurd (stopped _ 13 3 n out (found_none rows items r s p ws cs out T usable v end e n) (omega arith) d)
   found_done g usable v end e (found m d u x) q isdone =
-      outcome-cases (walk_list m u ws cs)
+      outcome_cases (walk_list m u ws cs)
       (λ n z refuses.
       let is = found_refused rows items r s p ws cs out T usable v end e m d u x n z refuses in
       absurd (stopped _ n 2 z out is (omega arith) isdone))
@@ -195,11 +195,11 @@ module _ (rows items : List ℕ) (r : ℕ) (s p ws cs out : List ℕ) (words : B
   pub edit_done : is_done (edit rows items r s p ws cs out).reply ≡ true
       → Edits rows items r s p ws cs (result_of (edit rows items r s p ws cs out))
   edit_done d =
-      asked-cases rows items r words
+      asked_cases rows items r words
       (λ k z e.
       absurd (stopped _ (suc k) 0 z out (edit_table rows items r s p ws cs out (suc k) 0 z e) (omega arith) d))
       λ g usable.
-      outcome-cases (read_message T s)
+      outcome_cases (read_message T s)
       (λ n z e. absurd (stopped _ n 1 z out (edit_message rows items r s p ws cs out T usable n z e) (omega arith) d))
       λ v end e.
       let is = edit_found rows items r s p ws cs out T usable v end e in
@@ -231,7 +231,7 @@ module _ (rows items : List ℕ) (r : ℕ) (s p out : List ℕ) (words : Below 6
         out = over (encode (type_of rows items r) (replace p y v)) out;
       }
   edit_gives v reads {m} {d} {u} {x} q y fy fine =
-      held-value rows items r s v words reads λ g usable end e.
+      held_value rows items r s v words reads λ g usable end e.
       let t = type_of rows items r in
       let (gu, gd) = find_formed t v p q g in
       let new = find_replaced t v p q y in
@@ -249,7 +249,7 @@ module _ (rows items : List ℕ) (r : ℕ) (s p out : List ℕ) (words : Below 6
       → find (type_of rows items r) v p ≡ found m d u x → length s ≤ length out
       → edit rows items r s p (nodes x) (contents x) out ≡ record { reply = done_reply 0 (length s); out = over s out }
   edit_same octets v reads {m} {d} {u} {x} q room =
-      held-value rows items r s v words reads λ g usable end e.
+      held_value rows items r s v words reads λ g usable end e.
       let t = type_of rows items r in
       let (f, whole, few, short, rest) = (read_message_iff t s v end octets).0 e in
       let same = replace_same t v p q in
@@ -266,7 +266,7 @@ pub edit_undone : (rows items : List ℕ) (r : ℕ) (s p ws cs s' out : List ℕ
     → edit rows items r s' p (nodes h.old) (contents h.old) out
     ≡ record { reply = done_reply 0 (length s); out = over s out }
 edit_undone rows items r s p ws cs s' out words octets h room =
-    held-value rows items r s h.value words h.reads λ g usable end e.
+    held_value rows items r s h.value words h.reads λ g usable end e.
     let t = type_of rows items r in
     let (f, whole, few, short, rest) = (read_message_iff t s h.value end octets).0 e in
     let back = replace_undone t h.value p h.finds h.new in

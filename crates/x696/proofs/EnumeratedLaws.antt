@@ -3,7 +3,7 @@
 use Rattle.std.specs.Prelude.{◌≡◌, List, [], ◌∷◌, ◌++◌, ℕ, ◌+◌, ◌*◌, ◌^◌, ◌-◌, ◌<◌, ◌≤◌, length, ltb}
 use Rattle.std.proofs.Common.{sym, arith, pow_mono, ltb-true, ltb-false, leb-true, lt-ltb, le-ltb, le-leb}
 use Rattle.x696.specs.Outcome.{got, next, must, choose}
-use Rattle.x696.proofs.OutcomeLaws.{next-inv, must-inv, choose-inv, cases, cases_lt}
+use Rattle.x696.proofs.OutcomeLaws.{next_inv, must_inv, choose_inv, cases, cases_lt}
 use Rattle.x696.specs.Digits.{from_digits, Below}
 use Rattle.x696.proofs.DigitsLaws.{below_split}
 use Rattle.x696.specs.Fewest.{fewest_signed, signed_octets, word_in, signed_word}
@@ -56,16 +56,16 @@ pub enumerated_sound_lem : (p : ℕ) (s : List ℕ) {w : ℕ} {r : List ℕ} →
     → (s ≡ enumerated_octets w ++ r) × (w < 2 ^ 64)
 unfolding read_enumerated enumerated_octets choose
 enumerated_sound_lem p s {w} {r} b e =
-    next-inv _ _ e λ x r₁ was then.
+    next_inv _ _ e λ x r₁ was then.
     let a = octet_sound p s was in
-    choose-inv _ _ _ then
+    choose_inv _ _ _ then
     (λ t q. let m : x ≡ w = cc in rw (← m, t) (cc a, omega (arith, ltb-true x 128 t)))
     (λ t q₀.
-    must-inv _ _ _ _ q₀ λ _ q.
-    next-inv _ _ q λ os r₂ was' then'.
-    must-inv _ _ _ _ then' λ u v.
-    must-inv _ _ _ _ v λ u' v'.
-    must-inv _ _ _ _ v' λ u'' v''.
+    must_inv _ _ _ _ q₀ λ _ q.
+    next_inv _ _ q λ os r₂ was' then'.
+    must_inv _ _ _ _ then' λ u v.
+    must_inv _ _ _ _ v λ u' v'.
+    must_inv _ _ _ _ v' λ u'' v''.
     let g = run_sound p (x - 128) r₁ was' in
     let m : signed_word os ≡ w = cc in
     let h = leb-true 128 (from_digits 8 os) u in

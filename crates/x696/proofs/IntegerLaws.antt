@@ -4,7 +4,7 @@
 use Rattle.std.specs.Prelude.{◌≡◌, true, not, ◌&&◌, ◌||◌, List, ◌++◌, ℕ, zero, suc, ◌+◌, ◌*◌, ◌^◌, ◌%◌, ◌-◌, ◌<◌, ◌≤◌, length, ltb, leb}
 use Rattle.std.proofs.Common.{sym, ◌∙◌, mod-eq_of_lt, arith, ltb-true, leb-true}
 use Rattle.x696.specs.Outcome.{got, next}
-use Rattle.x696.proofs.OutcomeLaws.{next-inv, cases, cases_lt, and_both}
+use Rattle.x696.proofs.OutcomeLaws.{next_inv, cases, cases_lt, and_both}
 use Rattle.x696.specs.Digits.{digits, from_digits, Below}
 use Rattle.x696.proofs.DigitsLaws.{digits_length, from_digits_lt, digits_from_digits, from_digits_digits}
 use Rattle.x696.proofs.DigitsLaws.{from_digits_digits_mod, digits_low, below_split}
@@ -153,7 +153,7 @@ pub form_sound : (z : Form) (p : ℕ) (s : List ℕ) {w : ℕ} {r : List ℕ} �
     → (s ≡ form_octets z w ++ r) × (w < 2 ^ 64)
 unfolding read_form form_octets
 form_sound (fixed_unsigned k) p s {w} h b e =
-    next-inv _ _ e λ os r₁ was then.
+    next_inv _ _ e λ os r₁ was then.
     let a = run_sound p k s was in
     let bo = (below_split 8 os r₁ b a.0).0 in
     let m : from_digits 8 os ≡ w = cc in
@@ -161,7 +161,7 @@ form_sound (fixed_unsigned k) p s {w} h b e =
     let lt : from_digits 8 os < 2 ^ (8 * k) = rw a.1 at (from_digits_lt 8 os bo) in
     rw (← m, d) (cc a.0, omega (arith, octets_le k h.1))
 form_sound (fixed_signed k) p s {w} h b e =
-    next-inv _ _ e λ os r₁ was then.
+    next_inv _ _ e λ os r₁ was then.
     let a = run_sound p k s was in
     let g = signed_run os k (below_split 8 os r₁ b a.0).0 a.1 h.0 h.1 in
     let m : signed_word os ≡ w = cc in

@@ -3,7 +3,7 @@
 use Rattle.std.specs.Prelude.{◌≡◌, refl, true, ◌||◌, List, [], ◌++◌, ℕ, zero, suc, ◌*◌, ◌/◌, ◌<◌, length, eqb}
 use Rattle.std.proofs.Common.{sym, ⊎_elim, arith, eqb-true}
 use Rattle.x696.specs.Outcome.{got, next, must}
-use Rattle.x696.proofs.OutcomeLaws.{next-inv, must-inv, or_either}
+use Rattle.x696.proofs.OutcomeLaws.{next_inv, must_inv, or_either}
 use Rattle.x696.specs.Digits.{digits, from_digits, Below}
 use Rattle.x696.proofs.DigitsLaws.{digits_length, from_digits_lt, digits_from_digits, from_digits_digits, below_split}
 use Rattle.x696.specs.Length.{octet}
@@ -55,25 +55,25 @@ pub leaf_sound : (l : Leaf) (p : ℕ) (s : List ℕ) {v : Val} {r : List ℕ} {X
     → X) → X
 unfolding read_leaf encode_leaf leaf_kind
 leaf_sound boolean p s b e k =
-    next-inv _ _ e λ x r₁ was then.
-    must-inv _ _ _ _ then λ t q.
+    next_inv _ _ e λ x r₁ was then.
+    must_inv _ _ _ _ then λ t q.
     let a = octet_sound p s was in
     let h = truth_octet x t in
     k (x / 255) [] (boolean_fits h.0) (cc) (rw h.1 (cc a))
 leaf_sound null p s b e k = k 0 [] null_fits (cc) (cc)
 leaf_sound (integer f a d) p s b e k =
-    next-inv _ _ e λ w r₁ was then.
-    must-inv _ _ _ _ then λ t q.
+    next_inv _ _ e λ w r₁ was then.
+    must_inv _ _ _ _ then λ t q.
     let m = form_sound (integer_form f a d) p s (integer_form_sane f a d) b was in
     k w [] (integer_fits m.1 t) (cc) (cc m.0)
 leaf_sound (enumerated ns) p s b e k =
-    next-inv _ _ e λ w r₁ was then.
-    must-inv _ _ _ _ then λ t q.
+    next_inv _ _ e λ w r₁ was then.
+    must_inv _ _ _ _ then λ t q.
     let m = enumerated_sound_lem p s b was in
     k w [] (enumerated_fits m.1 t) (cc) (cc m.0)
 leaf_sound (real w) p s b e k =
-    next-inv _ _ e λ os r₁ was then.
-    must-inv _ _ _ _ then λ t q.
+    next_inv _ _ e λ os r₁ was then.
+    must_inv _ _ _ _ then λ t q.
     let m = run_sound p (real_octets w) s was in
     let bo = (below_split 8 os r₁ b m.0).0 in
     let d : digits 8 (real_octets w) (from_digits 8 os) ≡ os = rw (← m.1) (digits_from_digits 8 os bo) in

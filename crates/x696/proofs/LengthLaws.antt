@@ -4,7 +4,7 @@ use Rattle.std.specs.Prelude.{◌≡◌, refl, List, [], ◌∷◌, ◌++◌, �
 use Rattle.std.proofs.Common.{sym, arith, length-append, take-append-drop, length-take-le, ltb-false, leb-true, lt-ltb, le-ltb, le-leb}
 use Rattle.std.proofs.Math.Seq.{take-append_seam, drop-append_seam}
 use Rattle.x696.specs.Outcome.{got, next, must, choose}
-use Rattle.x696.proofs.OutcomeLaws.{next-inv, must-inv, choose-inv, refused_never, cases_lt}
+use Rattle.x696.proofs.OutcomeLaws.{next_inv, must_inv, choose_inv, refused_never, cases_lt}
 use Rattle.x696.specs.Digits.{from_digits, Below}
 use Rattle.x696.proofs.DigitsLaws.{below_split}
 use Rattle.x696.specs.Fewest.{fewest, unsigned_octets}
@@ -29,7 +29,7 @@ run_complete p os r n e =
 pub run_sound : (p n : ℕ) (s : List ℕ) {os r : List ℕ} → run p n s ≡ got os r → (s ≡ os ++ r) × (length os ≡ n)
 unfolding run
 run_sound p n s {os} {r} e =
-    must-inv _ _ _ _ e λ t q.
+    must_inv _ _ _ _ e λ t q.
     let qo : take n s ≡ os = cc in
     let qr : drop n s ≡ r = cc in
     (rw (← qo, ← qr, take-append-drop n s), rw (← qo) (length-take-le n s (leb-true n (length s) t)))
@@ -56,15 +56,15 @@ pub length_sound : (p : ℕ) (s : List ℕ) {n : ℕ} {r : List ℕ} → Below 8
     → s ≡ length_octets n ++ r
 unfolding read_length length_octets choose
 length_sound p s {n} {r} b e =
-    next-inv _ _ e λ x r₁ was then.
+    next_inv _ _ e λ x r₁ was then.
     let a = octet_sound p s was in
-    choose-inv _ _ _ then
+    choose_inv _ _ _ then
     (λ t q. let m : x ≡ n = cc in rw (← m, t) (cc a))
     (λ t q₀.
-    must-inv _ _ _ _ q₀ λ _ q.
-    next-inv _ _ q λ os r₂ was' then'.
-    must-inv _ _ _ _ then' λ u v.
-    must-inv _ _ _ _ v λ u' v'.
+    must_inv _ _ _ _ q₀ λ _ q.
+    next_inv _ _ q λ os r₂ was' then'.
+    must_inv _ _ _ _ then' λ u v.
+    must_inv _ _ _ _ v λ u' v'.
     let g = run_sound p (x - 128) r₁ was' in
     let m : from_digits 8 os ≡ n = cc in
     let h = leb-true 128 (from_digits 8 os) u in
@@ -82,7 +82,7 @@ pub read_run_sound : (p : ℕ) (s : List ℕ) {os r : List ℕ} → Below 8 s �
     → (s ≡ length_octets (length os) ++ (os ++ r)) × Below 8 os
 unfolding read_run
 read_run_sound p s {os} {r} b e =
-    next-inv _ _ e λ n r₁ was then.
+    next_inv _ _ e λ n r₁ was then.
     let a = length_sound p s b was in
     let g = run_sound p n r₁ then in
     (rw (g.1, ← g.0) a, (below_split 8 os r (below_split 8 (length_octets n) r₁ b a).1 g.0).0)

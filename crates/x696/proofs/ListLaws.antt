@@ -3,7 +3,7 @@
 use Rattle.std.specs.Prelude.{◌≡◌, refl, ◌↔◌, List, [], ◌∷◌, ℕ, zero, suc, ◌*◌, ◌/◌, ◌%◌, ◌≤◌, length}
 use Rattle.std.proofs.Common.{ap, append-nil, arith, length-append, leb-true, eqb-true, le-leb, eq-eqb}
 use Rattle.x696.specs.Outcome.{got, next, must}
-use Rattle.x696.proofs.OutcomeLaws.{next-inv, must-inv}
+use Rattle.x696.proofs.OutcomeLaws.{next_inv, must_inv}
 use Rattle.x696.specs.Digits.{Below}
 use Rattle.x696.proofs.DigitsLaws.{below_append}
 use Rattle.x696.specs.Value.{Val, node, Vals, no_values, value, size, sizes, nodes, nodes_of, contents, contents_of}
@@ -115,12 +115,12 @@ pub walk_list_sound : (m d : ℕ) (t : Ty) (ws cs : List ℕ) (v : Val) (r : Lis
     → Below 8 cs → walk_list m t ws cs ≡ got v r → ListOf m d t ws cs v r
 unfolding walk_list
 walk_list_sound m d t ws cs _ _ w b o e =
-    must-inv _ _ _ _ e λ even then.
-    must-inv _ _ _ _ then λ few then.
-    must-inv _ _ _ _ then λ short then.
-    next-inv _ _ then λ v r was then.
-    must-inv _ _ _ _ then λ no_words then.
-    must-inv _ _ _ _ then λ no-contents then.
+    must_inv _ _ _ _ e λ even then.
+    must_inv _ _ _ _ then λ few then.
+    must_inv _ _ _ _ then λ short then.
+    next_inv _ _ then λ v r was then.
+    must_inv _ _ _ _ then λ no_words then.
+    must_inv _ _ _ _ then λ no-contents then.
     let a = walk_component_sound m d t _ w b o was in
     let end = nothing_left r.words (eqb-true _ 0 no_words) in
     let end' = nothing_left r.contents (eqb-true _ 0 no-contents) in

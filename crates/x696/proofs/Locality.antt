@@ -16,7 +16,7 @@ use Rattle.x696.specs.Apart.{Apart}
 use Rattle.x696.specs.Frame.{Frame, leading, filled}
 use Rattle.x696.proofs.ChildLaws.{child_value_lem, child_replaced}
 use Rattle.x696.proofs.ChildOctets.{Framed, alone, child_framed, with_child_octets, with_child_bits}
-use Rattle.x696.proofs.PathLaws.{same-found, step-inv, inner_same, find_replaced, replace_same, others_keep}
+use Rattle.x696.proofs.PathLaws.{same_found, step_inv, inner_same, find_replaced, replace_same, others_keep}
 use Rattle.x696.proofs.BeforeLaws.{before_length}
 
 -- the octets of a message before and after an edit: one frame, filled with the old component and with the new one
@@ -56,18 +56,18 @@ path_framed : (m d : ℕ) (t : Ty) (v : Val) (p : List ℕ) {m' d' : ℕ} {u : T
     → find_from m d t v p ≡ found m' d' u x
     → Framed (octets_before t v p) (λ y. own_octets m d t (replace p y v)) m' d' u x
 unfolding find_from through replace octets_before
-path_framed m d t v [] e = same-found (Framed [] (own_octets m d t)) e (alone m d t v)
+path_framed m d t v [] e = same_found (Framed [] (own_octets m d t)) e (alone m d t v)
 path_framed m d t v (i ∷ []) e =
-    step-inv m d t v i [] e λ m₁ d₁ t₁ v₁ c q.
+    step_inv m d t v i [] e λ m₁ d₁ t₁ v₁ c q.
     let o = child_framed t v i c in
-    same-found (Framed _ _) q (record {
+    same_found (Framed _ _) q (record {
       frame = o.frame;
       leads = rw (c, append-nil (child_before t v i)) o.leads;
       fills = λ y. with_child_octets m d t _ i (child_replaced t v i c y) ∙ o.fills y;
     })
 path_framed m d t v (i ∷ j ∷ p) {m'} {d'} {u} {x} e =
-    step-inv m d t v i (j ∷ p) e λ m₁ d₁ t₁ v₁ c q.
-    step-inv m₁ d₁ t₁ v₁ j p q λ m₂ d₂ t₂ v₂ c₂ q₂.
+    step_inv m d t v i (j ∷ p) e λ m₁ d₁ t₁ v₁ c q.
+    step_inv m₁ d₁ t₁ v₁ j p q λ m₂ d₂ t₂ v₂ c₂ q₂.
     let o = child_framed t v i c in
     let g = path_framed m₁ d₁ t₁ v₁ (j ∷ p) q in
     record {

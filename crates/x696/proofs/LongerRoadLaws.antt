@@ -20,7 +20,7 @@ use Rattle.x696.specs.Operations.{node_limit, octet_limit, asked, read_message, 
 use Rattle.x696.specs.Operations.{value_in, octets_for, Written, written, encode_list}
 use Rattle.x696.specs.Editing.{place_of, edited, edit}
 use Rattle.x696.specs.LongerRoad.{swapped, longer_road, SameResult}
-use Rattle.x696.proofs.AskedLaws.{asked-cases, outcome-cases}
+use Rattle.x696.proofs.AskedLaws.{asked_cases, outcome_cases}
 use Rattle.x696.proofs.EditLaws.{Finished, AtFound, edit_table, edit_message, edit_found}
 use Rattle.x696.proofs.DecodeLaws.{list_many, list_long_lem, list_walked, decode_answers}
 use Rattle.x696.proofs.Unique.{read_message_iff}
@@ -71,7 +71,7 @@ module _ (rows items : List ℕ) (r : ℕ) (s p ws cs out : List ℕ) (t : Ty) (
   found_same usable end e f g words octets (nowhere n) q = same_result refl
   found_same usable end e f g words octets (found m d u x) q =
       let (gu, gd) = find_formed t v p q g in
-      outcome-cases (walk_list m u ws cs)
+      outcome_cases (walk_list m u ws cs)
       (λ n z refuses. same_result (rw refuses))
       λ y l walked.
       let new = (walk_list_sound m d u ws cs y l gu words octets walked).0 in
@@ -85,10 +85,10 @@ unfolding longer_road swapped value_in then in_part answer written
 longer_road_lem rows items r s ns os p ws cs out words octets words' octets' room room' =
     let t = type_of rows items r in
     rw (decode_answers rows items r s ns os words octets room room')
-    (asked-cases rows items r words
+    (asked_cases rows items r words
     (λ k z e. same_result (rw (edit_table rows items r s p ws cs out (suc k) 0 z e, e)))
     λ g usable.
-    outcome-cases (read_message t s)
+    outcome_cases (read_message t s)
     (λ n z e. same_result (rw (edit_message rows items r s p ws cs out t usable n z e, usable, e)))
     λ v end e.
     let f = ((read_message_iff t s v end octets).0 e).0 in

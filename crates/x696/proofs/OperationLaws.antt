@@ -24,7 +24,7 @@ use Rattle.x696.proofs.Unique.{read_message_iff}
 use Rattle.x696.proofs.ListLaws.{walk_list_sound, walk_list_complete}
 use Rattle.x696.proofs.EncodeLaws.{encode_octets}
 use Rattle.x696.proofs.ContentsLaws.{contents_length}
-use Rattle.x696.proofs.Answering.{answers-done, or_nonzero, table_nonzero, row_nonzero, message_nonzero}
+use Rattle.x696.proofs.Answering.{answers_done, or_nonzero, table_nonzero, row_nonzero, message_nonzero}
 use Rattle.x696.proofs.Answering.{Nonzero, then_answers, list_nonzero, long_nonzero, room_nonzero}
 use Rattle.x696.proofs.AnswerLaws.{value_in_answers, decodable_answers, octets_for_answers, room_answers}
 use Rattle.x696.specs.RefusalTable.{◌or◌, OfList, LongResult}
@@ -47,11 +47,11 @@ module _ {A : Type 0} where
   unless_inv false n q p a e f = let z : ◌≡◌ {A = ℕ} 0 1 = cc in absurd (omega arith)
 
 module _ {S A : Type 0} where
-  inPart-inv {ℓ} : (q : ℕ) (o : Outcome S A) {a : A} {X : Type ℓ} → in_part q o ≡ done a
+  in_part_inv {ℓ} : (q : ℕ) (o : Outcome S A) {a : A} {X : Type ℓ} → in_part q o ≡ done a
       → ((s : S) → o ≡ got a s → X) → X
   unfolding in_part
-  inPart-inv q (refused n p) e f = let z : ◌≡◌ {A = ℕ} 0 1 = cc in absurd (omega arith)
-  inPart-inv q (got a s) e f = f s cc
+  in_part_inv q (refused n p) e f = let z : ◌≡◌ {A = ℕ} 0 1 = cc in absurd (omega arith)
+  in_part_inv q (got a s) e f = f s cc
 
 asking_nonzero : (rows : List ℕ) → Nonzero (Asking rows)
 asking_nonzero rows = or_nonzero _ _ (table_nonzero _) row_nonzero
@@ -94,7 +94,7 @@ module _ (rows items : List ℕ) (r : ℕ) (u : Usable rows items r) where
   value_in_sound s v b e =
       then_inv _ _ e λ t was then.
       let same : its ≡ t = cc (asked_usable) in
-      inPart-inv _ _ then λ m read.
+      in_part_inv _ _ then λ m read.
       let (fits, is, few, short, _) = (read_message_iff its s v m b).0 (rw same read) in
       (record { fits = fits; few = few; short = rw (← is) short }, is)
 
@@ -125,7 +125,7 @@ module _ (rows items : List ℕ) (r : ℕ) (u : Usable rows items r) where
       → (v : Val) × Within its v × (s ≡ encode its v)
   unfolding validate
   validate_sound s b e =
-      answers-done (value_in_answers rows items r s b) (or_nonzero _ _ (asking_nonzero rows) (message_nonzero _))
+      answers_done (value_in_answers rows items r s b) (or_nonzero _ _ (asking_nonzero rows) (message_nonzero _))
       (λ (x : Reply). x.number) _ _ (λ _ _ _. refl) e
       λ v is. let (within, encoded) = value_in_sound s v b is in (v, within, encoded)
 
@@ -138,7 +138,7 @@ module _ (rows items : List ℕ) (r : ℕ) (u : Usable rows items r) where
       → (v : Val) × Within its v × (s ≡ encode its v) × Room v ns cs
   unfolding decode
   decode_sound s ns cs b e =
-      answers-done (decodable_answers rows items r s b ns cs)
+      answers_done (decodable_answers rows items r s b ns cs)
       (or_nonzero _ _ (or_nonzero _ _ (asking_nonzero rows) (message_nonzero _)) room_nonzero)
       (λ (x : Decoded). x.reply.number) _ _ (λ _ _ _. refl) e
       λ v is. let (within, encoded, room) = decodable_sound s ns cs v b is in (v, within, encoded, room)
@@ -160,7 +160,7 @@ module _ (rows items : List ℕ) (r : ℕ) (u : Usable rows items r) where
       then_inv _ _ e λ t was then.
       let same : its ≡ t = cc (asked_usable) in
       then_inv _ _ then λ v walked then.
-      inPart-inv _ _ walked λ m read.
+      in_part_inv _ _ walked λ m read.
       unless_inv _ _ _ _ _ then λ short q.
       let (fits, is, is', few, _, _) = walk_list_sound 0 0 its ws cs v m formed b o (rw same read) in
       let octets : os ≡ encode its v = cc in
@@ -175,7 +175,7 @@ module _ (rows items : List ℕ) (r : ℕ) (u : Usable rows items r) where
       → (v : Val) × Within its v × (ws ≡ nodes v) × (cs ≡ contents v)
   unfolding measure
   measure_sound ws cs b o e =
-      answers-done (octets_for_answers rows items r ws cs) (octets_nonzero rows _)
+      answers_done (octets_for_answers rows items r ws cs) (octets_nonzero rows _)
       (λ (x : Reply). x.number) _ _ (λ _ _ _. refl) e
       λ os is. let (v, within, is, is', _) = octets_for_sound ws cs os b o is in (v, within, is, is')
 
@@ -191,7 +191,7 @@ module _ (rows items : List ℕ) (r : ℕ) (u : Usable rows items r) where
       → (v : Val) × Within its v × (ws ≡ nodes v) × (cs ≡ contents v) × (length (encode its v) ≤ length out)
   unfolding encode_list written
   encode_sound ws cs out b o e =
-      answers-done (then_answers _ (octets_for_answers rows items r ws cs) λ os. room_answers os out)
+      answers_done (then_answers _ (octets_for_answers rows items r ws cs) λ os. room_answers os out)
       (or_nonzero _ _ (octets_nonzero rows _) room_nonzero)
       (λ (x : Written). x.reply.number) _ _ (λ _ _ _. refl) e
       λ os done.

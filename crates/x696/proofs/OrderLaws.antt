@@ -12,8 +12,8 @@ use Rattle.x696.specs.Path.{child, component_at, element_at, alternative_at, chi
 use Rattle.x696.specs.Path.{replace_at, replace_child, replace, components_before, elements_before}
 use Rattle.x696.specs.Path.{child_before, octets_before}
 use Rattle.x696.specs.PathOrder.{Ahead, sooner, together}
-use Rattle.x696.proofs.ChildLaws.{no_component_lem, same-component, child_value_lem, child_replaced, children_stay}
-use Rattle.x696.proofs.PathLaws.{step-inv}
+use Rattle.x696.proofs.ChildLaws.{no_component_lem, same_component, child_value_lem, child_replaced, children_stay}
+use Rattle.x696.proofs.PathLaws.{step_inv}
 use Rattle.x696.proofs.BeforeLaws.{preamble_before, child_before_length, before_step}
 use Rattle.x696.proofs.Locality.{inner_stands, inner_length}
 
@@ -46,7 +46,7 @@ components_later no_items vs i j e y h = absurd (no_component_lem e)
 components_later (item m d t is) no_values i j e y h = absurd (no_component_lem e)
 components_later (item m d t is) (value v vs) i zero e y h = absurd (omega arith)
 components_later (item m d t is) (value v vs) zero (suc j) e y h =
-    same-component (Later y 0 _ _) e (next_later m d t v y (components_before is vs j))
+    same_component (Later y 0 _ _) e (next_later m d t v y (components_before is vs j))
 components_later (item m d t is) (value v vs) (suc i) (suc j) e y h =
     let front = length-append (own_octets m d t v) in
     let rest = components_later is vs i j e y (omega arith) in
@@ -60,7 +60,7 @@ unfolding element_at replace_at elements_before own_octets carried_octets
 elements_later t no_values i j e y h = absurd (no_component_lem e)
 elements_later t (value v vs) i zero e y h = absurd (omega arith)
 elements_later t (value v vs) zero (suc j) e y h =
-    same-component (Later y 0 _ _) e (next_later 0 0 t v y (elements_before t vs j))
+    same_component (Later y 0 _ _) e (next_later 0 0 t v y (elements_before t vs j))
 elements_later t (value v vs) (suc i) (suc j) e y h =
     let front = length-append (encode t v) in
     let rest = elements_later t vs i j e y (omega arith) in
@@ -96,8 +96,8 @@ joined : (m d : ℕ) (t : Ty) (v : Val) (i : ℕ) (q : List ℕ) {m₁ d₁ m₂
     → child_at t v i ≡ child m₁ d₁ t₁ v₁ → find_from m d t v (i ∷ q) ≡ found m₂ d₂ u₂ x₂
     → find_from m₁ d₁ t₁ v₁ q ≡ found m₂ d₂ u₂ x₂
 joined m d t v i q {m₂ = m₂} {d₂ = d₂} {u₂ = u₂} {x₂ = x₂} c e =
-    step-inv m d t v i q e λ m' d' t' v' c' e'.
-    same-component (λ m d t v. find_from m d t v q ≡ found m₂ d₂ u₂ x₂) (sym c' ∙ c) e'
+    step_inv m d t v i q e λ m' d' t' v' c' e'.
+    same_component (λ m d t v. find_from m d t v q ≡ found m₂ d₂ u₂ x₂) (sym c' ∙ c) e'
 
 -- a component stands behind every one that is ahead of it
 inner_order : (m d : ℕ) (t : Ty) (v : Val) {p q : List ℕ} {m₁ d₁ m₂ d₂ : ℕ} {u₁ u₂ : Ty} {x₁ x₂ : Val} → Ahead p q
@@ -105,8 +105,8 @@ inner_order : (m d : ℕ) (t : Ty) (v : Val) {p q : List ℕ} {m₁ d₁ m₂ d�
     → length (octets_before t v p) + length (own_octets m₁ d₁ u₁ x₁) ≤ length (octets_before t v q)
 unfolding find_from
 inner_order m d t v {m₁ = m₁} {d₁ = d₁} {u₁ = u₁} {x₁ = x₁} (sooner {i = i} {j = j} {p = p} {q = q} h) e f =
-    step-inv m d t v i p e λ mi di ti vi ci ei.
-    step-inv m d t v j q f λ mj dj tj vj cj ej.
+    step_inv m d t v i p e λ mi di ti vi ci ei.
+    step_inv m d t v j q f λ mj dj tj vj cj ej.
     let (after, stands) = inner_stands mi di ti vi p ei in
     let a = length-append (octets_before ti vi p) (own_octets m₁ d₁ u₁ x₁ ++ after) in
     let b = length-append (own_octets m₁ d₁ u₁ x₁) after in
@@ -118,7 +118,7 @@ inner_order m d t v {m₁ = m₁} {d₁ = d₁} {u₁ = u₁} {x₁ = x₁} (soo
       length-append (child_before t v j) (octets_before tj vj q),
     ) (omega (arith, ap length stands, a, b, later.behind))
 inner_order m d t v (together {i = i} {p = p} {q = q} h) e f =
-    step-inv m d t v i p e λ mi di ti vi ci ei.
+    step_inv m d t v i p e λ mi di ti vi ci ei.
     rw (
       before_step t v i ci p,
       before_step t v i ci q,
@@ -133,8 +133,8 @@ module _ {m₁ d₁ m₂ d₂ : ℕ} {u₁ u₂ : Ty} {x₁ x₂ : Val} (y : Val
       → length (octets_before t (replace p y v) q) ≡ length (octets_before t v q)
   unfolding replace
   inner_ahead m d t v (sooner {i = j} {j = i} {p = q} {q = p} h) e f =
-      step-inv m d t v i p e λ mi di ti vi ci ei.
-      step-inv m d t v j q f λ mj dj tj vj cj ej.
+      step_inv m d t v i p e λ mi di ti vi ci ei.
+      step_inv m d t v j q f λ mj dj tj vj cj ej.
       let w = replace p y vi in
       rw (
         child_value_lem t v i ci,
@@ -145,7 +145,7 @@ module _ {m₁ d₁ m₂ d₂ : ℕ} {u₁ u₂ : Ty} {x₁ x₂ : Val} (y : Val
         child_before_length t v i j w (omega arith),
       )
   inner_ahead m d t v (together {i = i} {p = q} {q = p} h) e f =
-      step-inv m d t v i p e λ mi di ti vi ci ei.
+      step_inv m d t v i p e λ mi di ti vi ci ei.
       let w = replace p y vi in
       rw (
         child_value_lem t v i ci,
@@ -164,8 +164,8 @@ module _ {m₁ d₁ m₂ d₂ : ℕ} {u₁ u₂ : Ty} {x₁ x₂ : Val} (y : Val
       ≡ length (octets_before t v q) + length (own_octets m₁ d₁ u₁ y)
   unfolding replace
   inner_behind m d t v (sooner {i = i} {j = j} {p = p} {q = q} h) e f =
-      step-inv m d t v i p e λ mi di ti vi ci ei.
-      step-inv m d t v j q f λ mj dj tj vj cj ej.
+      step_inv m d t v i p e λ mi di ti vi ci ei.
+      step_inv m d t v j q f λ mj dj tj vj cj ej.
       let w = replace p y vi in
       let later = child_later t v i j ci cj w h in
       let own = inner_length mi di ti vi p ei y in
@@ -177,7 +177,7 @@ module _ {m₁ d₁ m₂ d₂ : ℕ} {u₁ u₂ : Ty} {x₁ x₂ : Val} (y : Val
         length-append (child_before t v j) (octets_before tj vj q),
       ) (omega (arith, later.moves, own))
   inner_behind m d t v (together {i = i} {p = p} {q = q} h) e f =
-      step-inv m d t v i p e λ mi di ti vi ci ei.
+      step_inv m d t v i p e λ mi di ti vi ci ei.
       let w = replace p y vi in
       let inner = inner_behind mi di ti vi h ei (joined m d t v i q ci f) in
       rw (

@@ -9,28 +9,28 @@ use Rattle.std.proofs.Common.{inl, inr, arith, ltb-true, ltb-false}
 use Rattle.x696.specs.Outcome.{Outcome, refused, got, next, must, choose}
 
 module _ {S T A B : Type 0} where
-  pub next-inv {ℓ} : (o : Outcome S A) (k : A → S → Outcome T B) {b : B} {r : T} {X : Type ℓ} → next o k ≡ got b r
+  pub next_inv {ℓ} : (o : Outcome S A) (k : A → S → Outcome T B) {b : B} {r : T} {X : Type ℓ} → next o k ≡ got b r
       → ((a : A) (s : S) → o ≡ got a s → k a s ≡ got b r → X) → X
   unfolding next
-  next-inv (refused n p) k e f = let z : ◌≡◌ {A = ℕ} 0 1 = cc in absurd (omega arith)
-  next-inv (got a s) k e f = f a s refl e
+  next_inv (refused n p) k e f = let z : ◌≡◌ {A = ℕ} 0 1 = cc in absurd (omega arith)
+  next_inv (got a s) k e f = f a s refl e
 
 module _ {S A : Type 0} where
-  pub must-inv {ℓ} : (t : Bool) (n p : ℕ) (o : Outcome S A) {a : A} {r : S} {X : Type ℓ} → must t n p o ≡ got a r
+  pub must_inv {ℓ} : (t : Bool) (n p : ℕ) (o : Outcome S A) {a : A} {r : S} {X : Type ℓ} → must t n p o ≡ got a r
       → (t ≡ true → o ≡ got a r → X) → X
   unfolding must
-  must-inv true n p o e f = f refl e
-  must-inv false n p o e f = let z : ◌≡◌ {A = ℕ} 0 1 = cc in absurd (omega arith)
+  must_inv true n p o e f = f refl e
+  must_inv false n p o e f = let z : ◌≡◌ {A = ℕ} 0 1 = cc in absurd (omega arith)
 
   -- a refusal is no reading
   pub refused_never : {n p : ℕ} {a : A} {r : S} → ◌≡◌ {A = Outcome S A} (refused n p) (got a r) → ⊥
   refused_never e = let z : ◌≡◌ {A = ℕ} 0 1 = cc in omega arith
 
-pub choose-inv {ℓ} : {A : Type 0} (t : Bool) (x y : Unit {0} → A) {w : A} {X : Type ℓ} → choose t x y ≡ w
+pub choose_inv {ℓ} : {A : Type 0} (t : Bool) (x y : Unit {0} → A) {w : A} {X : Type ℓ} → choose t x y ≡ w
     → (t ≡ true → x tt ≡ w → X) → (t ≡ false → y tt ≡ w → X) → X
 unfolding choose
-choose-inv true x y e f g = f refl e
-choose-inv false x y e f g = g refl e
+choose_inv true x y e f g = f refl e
+choose_inv false x y e f g = g refl e
 
 -- which way a test goes, with what it tells
 pub cases {ℓ} : (t : Bool) {X : Type ℓ} → (t ≡ true → X) → (t ≡ false → X) → X

@@ -11,7 +11,7 @@ use Rattle.x696.specs.Fits.{Fits, FitsComponent, plain}
 use Rattle.x696.specs.Path.{Child, no_child, child, child_at, through, Found, nowhere, found, onward}
 use Rattle.x696.specs.Path.{find_from, find, child_value, replace}
 use Rattle.x696.specs.Apart.{Apart, parting, alongside}
-use Rattle.x696.proofs.ChildLaws.{same-component, child_value_lem, child_replaced, size_child, children_stay}
+use Rattle.x696.proofs.ChildLaws.{same_component, child_value_lem, child_replaced, size_child, children_stay}
 use Rattle.x696.proofs.ChildLaws.{child_same, child_twice}
 use Rattle.x696.proofs.ChildFits.{unplain, child_fits, with_child_fits, fits_with_child}
 
@@ -20,45 +20,45 @@ nowhere_never : {n m d : ℕ} {t : Ty} {v : Val} → nowhere n ≡ found m d t v
 nowhere_never e = let z : ◌≡◌ {A = ℕ} 0 1 = cc in omega arith
 
 -- what holds of a component that was found holds of the same component
-pub same-found {ℓ} : (P : (mark default : ℕ) → Ty → Val → Type ℓ) {m d m' d' : ℕ} {t t' : Ty} {v v' : Val}
+pub same_found {ℓ} : (P : (mark default : ℕ) → Ty → Val → Type ℓ) {m d m' d' : ℕ} {t t' : Ty} {v v' : Val}
     → found m d t v ≡ found m' d' t' v' → P m d t v → P m' d' t' v'
-same-found P e h = same-component P (cc) h
+same_found P e h = same_component P (cc) h
 
 onward_inv : (f : Found) {m d : ℕ} {t : Ty} {v : Val} → onward f ≡ found m d t v → f ≡ found m d t v
 unfolding onward
 onward_inv (nowhere n) e = absurd (nowhere_never e)
 onward_inv (found m d t v) e = e
 
-through-inv {ℓ} : (c : Child) (p : List ℕ) {m d : ℕ} {u : Ty} {x : Val} {X : Type ℓ}
+through_inv {ℓ} : (c : Child) (p : List ℕ) {m d : ℕ} {u : Ty} {x : Val} {X : Type ℓ}
     → through c (nowhere 0) (λ m d t v. onward (find_from m d t v p)) ≡ found m d u x
     → ((m₁ d₁ : ℕ) (t₁ : Ty) (v₁ : Val) → c ≡ child m₁ d₁ t₁ v₁ → find_from m₁ d₁ t₁ v₁ p ≡ found m d u x → X) → X
 unfolding through
-through-inv no_child p e k = absurd (nowhere_never e)
-through-inv (child m₁ d₁ t₁ v₁) p e k = k m₁ d₁ t₁ v₁ refl (onward_inv (find_from m₁ d₁ t₁ v₁ p) e)
+through_inv no_child p e k = absurd (nowhere_never e)
+through_inv (child m₁ d₁ t₁ v₁) p e k = k m₁ d₁ t₁ v₁ refl (onward_inv (find_from m₁ d₁ t₁ v₁ p) e)
 
-pub step-inv {ℓ} : (m d : ℕ) (t : Ty) (v : Val) (i : ℕ) (p : List ℕ) {m' d' : ℕ} {u : Ty} {x : Val} {X : Type ℓ}
+pub step_inv {ℓ} : (m d : ℕ) (t : Ty) (v : Val) (i : ℕ) (p : List ℕ) {m' d' : ℕ} {u : Ty} {x : Val} {X : Type ℓ}
     → find_from m d t v (i ∷ p) ≡ found m' d' u x
     → ((m₁ d₁ : ℕ) (t₁ : Ty) (v₁ : Val)
     → child_at t v i ≡ child m₁ d₁ t₁ v₁ → find_from m₁ d₁ t₁ v₁ p ≡ found m' d' u x → X) → X
 unfolding find_from
-step-inv m d t v i p e k = through-inv (child_at t v i) p e k
+step_inv m d t v i p e k = through_inv (child_at t v i) p e k
 
 -- ---- a component inside a component
 module _ {m' d' : ℕ} {u : Ty} {x : Val} where
   inner_fits : {m d : ℕ} {t : Ty} {v : Val} (p : List ℕ) → find_from m d t v p ≡ found m' d' u x
       → FitsComponent m d t v → FitsComponent m' d' u x
   unfolding find_from
-  inner_fits [] e f = same-found FitsComponent e f
+  inner_fits [] e f = same_found FitsComponent e f
   inner_fits {m} {d} {t} {v} (i ∷ p) e f =
-      step-inv m d t v i p e λ m₁ d₁ t₁ v₁ c q. inner_fits p q (child_fits (with_child_fits f i c) i c).0
+      step_inv m d t v i p e λ m₁ d₁ t₁ v₁ c q. inner_fits p q (child_fits (with_child_fits f i c) i c).0
 
   inner_replaced_fits : {m d : ℕ} {t : Ty} {v : Val} (p : List ℕ) → find_from m d t v p ≡ found m' d' u x
       → FitsComponent m d t v → (y : Val) → FitsComponent m' d' u y → FitsComponent m d t (replace p y v)
   unfolding find_from replace
   inner_replaced_fits {m} {d} {t} [] e f y g =
-      same-found (λ m' d' u x. FitsComponent m' d' u y → FitsComponent m d t y) e (λ h. h) g
+      same_found (λ m' d' u x. FitsComponent m' d' u y → FitsComponent m d t y) e (λ h. h) g
   inner_replaced_fits {m} {d} {t} {v} (i ∷ p) e f y g =
-      step-inv m d t v i p e λ m₁ d₁ t₁ v₁ c q.
+      step_inv m d t v i p e λ m₁ d₁ t₁ v₁ c q.
       let k = child_fits (with_child_fits f i c) i c in
       let z = inner_replaced_fits p q k.0 y g in
       rw (child_value_lem t v i c) (fits_with_child m (k.1 _ z) i (child_replaced t v i c _))
@@ -66,24 +66,24 @@ module _ {m' d' : ℕ} {u : Ty} {x : Val} where
   inner_found : (m d : ℕ) (t : Ty) (v : Val) (p : List ℕ) → find_from m d t v p ≡ found m' d' u x
       → (y : Val) → find_from m d t (replace p y v) p ≡ found m' d' u y
   unfolding find_from through onward replace
-  inner_found m d t v [] e y = same-found (λ m' d' u x. found m d t y ≡ found m' d' u y) e refl
+  inner_found m d t v [] e y = same_found (λ m' d' u x. found m d t y ≡ found m' d' u y) e refl
   inner_found m d t v (i ∷ p) e y =
-      step-inv m d t v i p e λ m₁ d₁ t₁ v₁ c q.
+      step_inv m d t v i p e λ m₁ d₁ t₁ v₁ c q.
       rw (child_value_lem t v i c, child_replaced t v i c (replace p y v₁), inner_found m₁ d₁ t₁ v₁ p q y)
 
   pub inner_same : (m d : ℕ) (t : Ty) (v : Val) (p : List ℕ) → find_from m d t v p ≡ found m' d' u x → replace p x v ≡ v
   unfolding find_from replace
   inner_same m d t v [] e = cc
   inner_same m d t v (i ∷ p) e =
-      step-inv m d t v i p e λ m₁ d₁ t₁ v₁ c q.
+      step_inv m d t v i p e λ m₁ d₁ t₁ v₁ c q.
       rw (child_value_lem t v i c, inner_same m₁ d₁ t₁ v₁ p q) (child_same t v i c)
 
   inner_size : (m d : ℕ) (t : Ty) (v : Val) (p : List ℕ) → find_from m d t v p ≡ found m' d' u x
       → (y : Val) → size (replace p y v) + size x ≡ size v + size y
   unfolding find_from replace
-  inner_size m d t v [] e y = same-found (λ m' d' u x. size y + size x ≡ size v + size y) e (omega arith)
+  inner_size m d t v [] e y = same_found (λ m' d' u x. size y + size x ≡ size v + size y) e (omega arith)
   inner_size m d t v (i ∷ p) e y =
-      step-inv m d t v i p e λ m₁ d₁ t₁ v₁ c q.
+      step_inv m d t v i p e λ m₁ d₁ t₁ v₁ c q.
       let h = inner_size m₁ d₁ t₁ v₁ p q y in
       let g = size_child t v i c (replace p y v₁) in
       rw (child_value_lem t v i c) (omega arith)
@@ -93,7 +93,7 @@ module _ {m' d' : ℕ} {u : Ty} {x : Val} where
   unfolding find_from through replace
   inner_others m d t v (parting {i = i} {j = j} h) e y = rw (children_stay t v i j _ h)
   inner_others m d t v (alongside {i = i} {p = p} a) e y =
-      step-inv m d t v i p e λ m₁ d₁ t₁ v₁ c h.
+      step_inv m d t v i p e λ m₁ d₁ t₁ v₁ c h.
       rw (child_value_lem t v i c, child_replaced t v i c (replace p y v₁), c, inner_others m₁ d₁ t₁ v₁ a h y)
 
 -- of two replacements the last one stands

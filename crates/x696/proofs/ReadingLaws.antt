@@ -19,7 +19,7 @@ use Rattle.x696.specs.Operations.{node_limit, octet_limit, value_in, decode}
 use Rattle.x696.specs.Editing.{Place, place_of, place_in, read_setting, shown_at, show_text, shown_octets}
 use Rattle.x696.specs.Result.{decoded}
 use Rattle.x696.specs.Edits.{Edits}
-use Rattle.x696.proofs.AskedLaws.{asked-cases, held-value}
+use Rattle.x696.proofs.AskedLaws.{asked_cases, held_value}
 use Rattle.x696.proofs.Unique.{read_message_iff}
 use Rattle.x696.proofs.DecodeLaws.{decode_answers}
 use Rattle.x696.proofs.PathLaws.{find_replaced, others_keep}
@@ -38,7 +38,7 @@ module _ (rows items : List ℕ) (r : ℕ) (s p : List ℕ) (words : Below 64 it
   -- the place is looked for in the value that the message holds
   place_held : place_in rows items r s p ≡ then (value_in rows items r s) λ v. place_of T v (find T v p)
   unfolding place_in value_in then
-  place_held = asked-cases rows items r words (λ k z e. rw e) λ g usable. rw usable
+  place_held = asked_cases rows items r words (λ k z e. rw e) λ g usable. rw usable
 
   -- a setting is that of the component, in the value that decoding gives; else the refusal is decoding's, or PATH's
   pub setting_decoded : (ns os : List ℕ) → Below 8 s → node_limit * node_width ≤ length ns → octet_limit ≤ length os
@@ -62,7 +62,7 @@ module _ (rows items : List ℕ) (r : ℕ) (s p : List ℕ) (words : Below 64 it
         → shown_octets (show_text rows items r s p) s instead ≡ os
     unfolding show_text place_of then answer
     text_shown octets e setting instead =
-        held-value rows items r s v words reads λ g usable end h.
+        held_value rows items r s v words reads λ g usable end h.
         let whole = ((read_message_iff T s v end octets).0 h).1 in
         rw (place_held, reads, e, whole) (shown_contents T v p e setting instead)
 

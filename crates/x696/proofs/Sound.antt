@@ -8,7 +8,7 @@ use mathlib.Core.List.{List, [], ◌∷◌, ◌++◌, append_assoc}
 use Prim.Native.Nat.{ℕ, zero, suc, ◌+◌, ◌<◌, ◌≤◌}
 use borrow.Author.Tests.{ltb-true, not-true, eqb-true}
 use Rattle.x696.specs.Outcome.{Outcome, got, choose}
-use Rattle.x696.proofs.OutcomeLaws.{next-inv, must-inv, refused_never, cases, and_both}
+use Rattle.x696.proofs.OutcomeLaws.{next_inv, must_inv, refused_never, cases, and_both}
 use Rattle.x696.specs.Digits.{Below}
 use Rattle.x696.proofs.DigitsLaws.{below_split}
 use Rattle.x696.specs.Tag.{Tag, tag, tag_octets}
@@ -93,8 +93,8 @@ module _ (limit : ℕ) where
       let qr : s ≡ r = cc in
       rw (← q, ← qr) (record { fits = no_elements; many = refl; from = refl; nodes = omega arith; within = λ h. h })
   times_sound t f one (suc n) s {vs} {r} b e =
-      next-inv _ _ e λ v r₁ was then.
-      next-inv _ _ then λ ws r₂ was' then'.
+      next_inv _ _ e λ v r₁ was then.
+      next_inv _ _ then λ ws r₂ was' then'.
       let a = one s v r₁ b was in
       let g = times_sound t f one n r₁ (below_split 8 (encode t v) r₁.octets b a.from).1 was' in
       let q : value v ws ≡ vs = cc in
@@ -121,7 +121,7 @@ module _ (limit : ℕ) where
       record { fits = plain a.fits; shown = refl; from = a.from; nodes = a.nodes; within = a.within }
   component_sound_lem (suc m) d t f one [] end s b l k e = absurd (omega arith)
   component_sound_lem (suc m) d t f one (zero ∷ bits) end s {v} {r} b l k e =
-      must-inv _ _ _ _ e λ u w.
+      must_inv _ _ _ _ e λ u w.
       let qv : v ≡ missing (suc m) d t = cc in
       let qr : message s.octets (suc s.count) ≡ r = cc in
       let z = ap size qv ∙ missing_size m d t in
@@ -134,8 +134,8 @@ module _ (limit : ℕ) where
         within = h;
       })
   component_sound_lem (suc m) d t f one (suc zero ∷ bits) end s {v} {r} b l k e =
-      next-inv _ _ e λ v₁ r₁ was then.
-      must-inv _ _ _ _ then λ u w.
+      next_inv _ _ e λ v₁ r₁ was then.
+      must_inv _ _ _ _ then λ u w.
       let qv : v₁ ≡ v = cc in
       let qr : r₁ ≡ r = cc in
       let a = one s v₁ r₁ b was in
@@ -157,14 +157,14 @@ module _ (limit : ℕ) where
     sound_inside : (t : Ty) (end c : ℕ) (s : List ℕ) {v : Val} {r : Message} → Below 8 s → suc c ≤ limit
         → read_inside limit t end (message s (suc c)) ≡ got v r → ReadAs limit t s c v r
     sound_inside (leaf l) end c s {v} {r} b h e =
-        next-inv _ _ e λ v₁ r₁ was then.
+        next_inv _ _ e λ v₁ r₁ was then.
         leaf_sound l _ s b was λ n os f is from.
         let qv : node _ n os no_values ≡ v = sym is ∙ cc in
         let qr : message r₁ (suc c) ≡ r = cc in
         rw (← qv, ← qr) (record { fits = leaf_fits refl f; from = from; nodes = omega arith; within = h })
     sound_inside (sequence is) end c s {v} {r} b h e =
-        next-inv _ _ e λ bits r₁ was then.
-        next-inv _ _ then λ vs r₂ was' then'.
+        next_inv _ _ e λ bits r₁ was then.
+        next_inv _ _ then λ vs r₂ was' then'.
         let a = preamble_sound (mark_count is) _ s b was in
         let g = sound_components is bits end (message r₁ (suc c))
         (below_split 8 (preamble (mark_count is) bits) r₁ b a.0).1 a.2 a.1 was' in
@@ -182,11 +182,11 @@ module _ (limit : ℕ) where
           within = g.within h;
         })
     sound_inside (sequence_of t) end c s {v} {r} b h e =
-        next-inv _ _ e λ n r₁ was then.
-        next-inv _ _ then λ vs r₂ was' then'.
+        next_inv _ _ e λ n r₁ was then.
+        next_inv _ _ then λ vs r₂ was' then'.
         let a = unsigned_sound _ s b was in
         let g = times_sound t _
-        (λ s v r b e. must-inv _ _ _ _ e λ u w.
+        (λ s v r b e. must_inv _ _ _ _ e λ u w.
         sound_inside t end s.count s.octets b (ltb-true s.count limit u) w)
         n (message r₁ (suc c)) (below_split 8 (variable_unsigned n) r₁ b a.0).1 was' in
         let qv : node 11 n [] vs ≡ v = cc in
@@ -198,9 +198,9 @@ module _ (limit : ℕ) where
           within = g.within h;
         })
     sound_inside (choice is) end c s {v} {r} b h e =
-        next-inv _ _ e λ g r₁ was then.
-        must-inv _ _ _ _ then λ u w.
-        next-inv _ _ w λ x r₂ was' then'.
+        next_inv _ _ e λ g r₁ was then.
+        must_inv _ _ _ _ then λ u w.
+        next_inv _ _ w λ x r₂ was' then'.
         let a = tag_sound _ s b was in
         let m = sound_alternative is (alternative is g) end (message r₁ (suc c))
         (below_split 8 (tag_octets g) r₁ b a).1 was' in
@@ -229,10 +229,10 @@ module _ (limit : ℕ) where
           within = λ h. h;
         })
     sound_components (item m d t is) bits end s {vs} {r} b l k e =
-        next-inv _ _ e λ v r₁ was then.
-        next-inv _ _ then λ ws r₂ was' then'.
+        next_inv _ _ e λ v r₁ was then.
+        next_inv _ _ then λ ws r₂ was' then'.
         let a = component_sound_lem m d t _
-        (λ s v r b e. must-inv _ _ _ _ e λ u w.
+        (λ s v r b e. must_inv _ _ _ _ e λ u w.
         sound_inside t end s.count s.octets b (ltb-true s.count limit u) w)
         bits end s b l (omega arith) was in
         let many = ap length a.shown ∙ length-append (presence_bits m d t v) (drop (presence_count m) bits) in
@@ -255,7 +255,7 @@ module _ (limit : ℕ) where
         → AlternativeReadAs limit is n s.octets s.count v r
     sound_alternative no_items n end s b e = absurd (refused_never e)
     sound_alternative (item a d t is) zero end s {v} {r} b e =
-        must-inv _ _ _ _ e λ u w.
+        must_inv _ _ _ _ e λ u w.
         let m = sound_inside t end s.count s.octets b (ltb-true s.count limit u) w in
         record {
           fits = this m.fits;
@@ -272,4 +272,4 @@ module _ (limit : ℕ) where
       → ReadAs limit t s.octets s.count v r
   unfolding read counted
   sound t end s b e =
-      must-inv _ _ _ _ e λ u w. sound_inside t end s.count s.octets b (ltb-true s.count limit u) w
+      must_inv _ _ _ _ e λ u w. sound_inside t end s.count s.octets b (ltb-true s.count limit u) w

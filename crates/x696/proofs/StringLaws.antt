@@ -3,7 +3,7 @@
 use Rattle.std.specs.Prelude.{◌≡◌, Bool, true, List, [], ◌∷◌, ◌++◌, ℕ, suc, ◌*◌, ◌-◌, length, leb}
 use Rattle.std.proofs.Common.{sym, append_assoc, arith, ltb-true, leb-true, eqb-true, lt-ltb, le-leb}
 use Rattle.x696.specs.Outcome.{got, next, must, choose}
-use Rattle.x696.proofs.OutcomeLaws.{next-inv, must-inv, choose-inv, cases, and_both}
+use Rattle.x696.proofs.OutcomeLaws.{next_inv, must_inv, choose_inv, cases, and_both}
 use Rattle.x696.specs.Digits.{Below}
 use Rattle.x696.proofs.DigitsLaws.{below_split}
 use Rattle.x696.specs.Length.{run, length_octets, read_run}
@@ -45,11 +45,11 @@ pub text_sound : (g : List ℕ → Bool) (kind f a b p : ℕ) (s : List ℕ) {v 
     → s ≡ text_octets f a b os ++ r → X) → X
 unfolding read_text text_octets choose
 text_sound g kind f a b p s {v} {r} bs e k =
-    next-inv _ _ e λ os r₁ was then.
-    must-inv _ _ _ _ then λ h q.
-    must-inv _ _ _ _ q λ t q'.
+    next_inv _ _ e λ os r₁ was then.
+    must_inv _ _ _ _ then λ h q.
+    must_inv _ _ _ _ q λ t q'.
     let qr : r₁ ≡ r = cc in
-    choose-inv (fixed_size f a b) (λ _. run p a s) (λ _. read_run p s) was
+    choose_inv (fixed_size f a b) (λ _. run p a s) (λ _. read_run p s) was
     (λ u w. let m = run_sound p a s w in k os (below_split 8 os r₁ bs m.0).0 h t (cc) (rw (u, ← qr) m.0))
     (λ u w.
     let m = read_run_sound p s bs w in
@@ -90,13 +90,13 @@ bits_in_sound : (f a b p : ℕ) (ys r : List ℕ) {v : Val} {r' : List ℕ} {X :
     → ((n : ℕ) (os : List ℕ) → ys ≡ unused_bits n ∷ os → length os ≡ bit_octets n → low_bits_clear (unused_bits n) os ≡ true
     → size_allowed f a b n ≡ true → v ≡ node 8 n os no_values → r ≡ r' → X) → X
 unfolding bits_in
-bits_in_sound f a b p [] r e k = must-inv _ _ _ _ e λ t q. absurd (omega (arith, ltb-true 0 0 t))
+bits_in_sound f a b p [] r e k = must_inv _ _ _ _ e λ t q. absurd (omega (arith, ltb-true 0 0 t))
 bits_in_sound f a b p (u ∷ os) r e k =
-    must-inv _ _ _ _ e λ _ q₀.
-    must-inv _ _ _ _ q₀ λ t₁ q₁.
-    must-inv _ _ _ _ q₁ λ t₂ q₂.
-    must-inv _ _ _ _ q₂ λ t₃ q₃.
-    must-inv _ _ _ _ q₃ λ t₄ q₄.
+    must_inv _ _ _ _ e λ _ q₀.
+    must_inv _ _ _ _ q₀ λ t₁ q₁.
+    must_inv _ _ _ _ q₁ λ t₂ q₂.
+    must_inv _ _ _ _ q₂ λ t₃ q₃.
+    must_inv _ _ _ _ q₃ λ t₄ q₄.
     let h₁ = ltb-true u 8 t₁ in
     let h₂ = leb-true u (8 * length os) t₂ in
     let l : length os ≡ bit_octets (8 * length os - u) = omega arith in
@@ -109,14 +109,14 @@ pub bit_string_sound : (f a b p : ℕ) (s : List ℕ) {v : Val} {r : List ℕ} {
     → size_allowed f a b n ≡ true → v ≡ node 8 n os no_values → s ≡ bit_string_octets f a b n os ++ r → X) → X
 unfolding read_bit_string bit_string_octets read_fixed_bits choose
 bit_string_sound f a b p s {v} {r} {X} bs e k =
-    choose-inv _ _ _ e
+    choose_inv _ _ _ e
     (λ t q.
-    next-inv _ _ q λ os r₁ was then.
-    must-inv _ _ _ _ then λ u w.
+    next_inv _ _ q λ os r₁ was then.
+    must_inv _ _ _ _ then λ u w.
     let m = run_sound p (bit_octets a) s was in
     k a os (below_split 8 os r₁ bs m.0).0 m.1 u (fixed_allowed f a b t) (cc) (rw t (cc m.0)))
     (λ t q.
-    next-inv _ _ q λ ys r₁ was then.
+    next_inv _ _ q λ ys r₁ was then.
     let m = read_run_sound p s bs was in
     bits_in_sound f a b p ys r₁ then λ n os is l z h v qr.
     let from : s ≡ (length_octets (suc (length os)) ++ (unused_bits n ∷ os)) ++ r =

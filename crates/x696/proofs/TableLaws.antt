@@ -11,12 +11,12 @@ use Rattle.std.proofs.Math.ListN.{length}
 use Rattle.std.proofs.Math.Dec.{eqb}
 use borrow.Author.Tests.{lt-ltb, le-leb, eq-eqb, ne_eqb, ltb-true, leb-true, eqb-true}
 use Rattle.x696.specs.Outcome.{choose}
-use Rattle.x696.proofs.OutcomeLaws.{choose-inv, cases_lt}
+use Rattle.x696.proofs.OutcomeLaws.{choose_inv, cases_lt}
 use Rattle.x696.specs.SoundTable.{SoundTable, nestings_of, Each}
 use Rattle.x696.specs.Table.{row_width, item_width, type_by, type_among, type_of}
 use Rattle.x696.specs.TableCheck.{given}
 use Rattle.x696.specs.TableFault.{sound, row_sound, row_nesting, rows_fault, sizes_sound, table_fault}
-use Rattle.x696.proofs.TableTests.{given-inv, each_first, each_later, each_all}
+use Rattle.x696.proofs.TableTests.{given_inv, each_first, each_later, each_all}
 
 module _ (rows items : List ℕ) where
   pub type_of_row : (r : ℕ) → type_of rows items r ≡ type_by (λ k. type_among r rows items k) rows items r
@@ -38,8 +38,8 @@ module _ (rows items : List ℕ) where
   unfolding rows_fault nestings_of
   rows_kept r zero e = λ i h. absurd (not-suc-le-zero h)
   rows_kept r (suc n) e =
-      choose-inv _ _ _ e
-      (λ t q. given-inv _ _ t λ kept few. each_all KeptRow r n (kept, leb-true _ 16 few) (rows_kept (suc r) n q))
+      choose_inv _ _ _ e
+      (λ t q. given_inv _ _ t λ kept few. each_all KeptRow r n (kept, leb-true _ 16 few) (rows_kept (suc r) n q))
       (λ _ q. let z : ◌≡◌ {A = ℕ} 0 1 = cc in absurd (omega arith))
 
   kept_rows : (r n : ℕ) → Each KeptRow r n → rows_fault rows items r n (nestings_of rows items r) ≡ sound
@@ -52,12 +52,12 @@ module _ (rows items : List ℕ) where
   from_sound : table_fault rows items ≡ sound → SoundTable rows items
   unfolding table_fault sizes_sound nestings_of
   from_sound e =
-      choose-inv _ _ _ e
+      choose_inv _ _ _ e
       (λ t q.
-      given-inv _ _ t λ whole_rows t.
-      given-inv _ _ t λ some_rows t.
-      given-inv _ _ t λ few_rows t.
-      given-inv _ _ t λ whole_items few_items.
+      given_inv _ _ t λ whole_rows t.
+      given_inv _ _ t λ some_rows t.
+      given_inv _ _ t λ few_rows t.
+      given_inv _ _ t λ whole_items few_items.
       let all : Each KeptRow 0 (length rows / row_width) = rows_kept 0 (length rows / row_width) q in
       let kept : (r : ℕ) → r < length rows / row_width → KeptRow r = λ r h. rw (zero-add r) at (all r h) in
       record {

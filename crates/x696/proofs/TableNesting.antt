@@ -21,7 +21,7 @@ use Rattle.x696.specs.SoundTable.{Each}
 use Rattle.x696.proofs.TableTests.{each_first, each_later}
 use Rattle.x696.specs.SoundTable.{nestings_of}
 use Rattle.x696.proofs.TableLaws.{sound_table}
-use Rattle.x696.proofs.TableRows.{kind-cases, sequence_row, sequence_of_row, choice_row}
+use Rattle.x696.proofs.TableRows.{kind_cases, sequence_row, sequence_of_row, choice_row}
 use Rattle.x696.proofs.TableKinds.{no_group, leaf_type, sequence_type, sequence_of_type, choice_type}
 
 -- where g gives the nestings of the types that f gives, the greatest among the items is that of the items' types
@@ -62,7 +62,7 @@ module _ (rows items : List ℕ) where
     unfolding row_nesting choose nesting greatest
     row_nesting_lem e =
         let types : ℕ → Ty = λ k. type_of rows items k in
-        kind-cases rows items r e
+        kind_cases rows items r e
         (λ k.
         let no = no_group rows r k in
         rw ((leaf_type rows items r k).1, no 10 (omega arith), no 11 (omega arith), no 12 (omega arith)))

@@ -9,14 +9,14 @@ use Rattle.std.proofs.Common.{arith}
 use Rattle.std.proofs.Math.Dec.{eqb}
 use borrow.Author.Tests.{lt-ltb, ne_eqb, le-leb, ltb-true, leb-true, eqb-true, eqb-false}
 use Rattle.x696.specs.Outcome.{choose}
-use Rattle.x696.proofs.OutcomeLaws.{choose-inv, cases_lt, and_both, or_either}
+use Rattle.x696.proofs.OutcomeLaws.{choose_inv, cases_lt, and_both, or_either}
 use Rattle.x696.specs.Integer.{rank, has_lower, has_upper, is_unsigned}
 use Rattle.x696.specs.Table.{row_kind, row_flags, row_a, row_b, row_first, row_count, item_width, item_word, type_of}
 use Rattle.x696.specs.TableCheck.{default_sound, range_inside, integer_sound, enumerated_sound, string_sound}
 use Rattle.x696.specs.TableCheck.{component_sound, sequence_sound, sequence_of_sound, alternative_sound, choice_sound}
 use Rattle.x696.specs.TableFault.{row_sound}
 use Rattle.x696.specs.SoundTable.{Component, Each}
-use Rattle.x696.proofs.TableTests.{given-inv, every_at, ascending_between}
+use Rattle.x696.proofs.TableTests.{given_inv, every_at, ascending_between}
 use Rattle.x696.proofs.TableTags.{Before, before_trans}
 
 unsigned_lower : (f a : ℕ) → is_unsigned f a ≡ true → has_lower f ≡ true
@@ -85,44 +85,44 @@ module _ (rows items : List ℕ) (r : ℕ) where
   unfolding row_sound
   kind_known e =
       let k = row_kind rows r in
-      choose-inv _ _ _ e (λ t _. kind_at 2 refl t) λ _ e.
-      choose-inv _ _ _ e (λ t _. kind_at 3 refl t) λ _ e.
-      choose-inv _ _ _ e
+      choose_inv _ _ _ e (λ t _. kind_at 2 refl t) λ _ e.
+      choose_inv _ _ _ e (λ t _. kind_at 3 refl t) λ _ e.
+      choose_inv _ _ _ e
       (λ t _.
       let (low, high) = and_both (leb 7 k) (leb k 9) t in
       (omega (arith, leb-true 7 k low), omega (arith, leb-true k 9 high)))
       λ _ e.
-      choose-inv _ _ _ e (λ t _. kind_at 10 refl t) λ _ e.
-      choose-inv _ _ _ e (λ t _. kind_at 11 refl t) λ _ e.
-      choose-inv _ _ _ e (λ t _. kind_at 12 refl t) λ _ e.
-      given-inv _ _ e λ t _.
+      choose_inv _ _ _ e (λ t _. kind_at 10 refl t) λ _ e.
+      choose_inv _ _ _ e (λ t _. kind_at 11 refl t) λ _ e.
+      choose_inv _ _ _ e (λ t _. kind_at 12 refl t) λ _ e.
+      given_inv _ _ e λ t _.
       let (low, high) = and_both (ltb 0 k) (ltb k 7) t in
       (ltb-true 0 k low, omega (arith, ltb-true k 7 high))
 
   component_sound_lem : (i : ℕ) → component_sound rows items r i ≡ true → Component rows items r i
   unfolding component_sound
   component_sound_lem i e =
-      given-inv _ _ e λ lower e.
-      given-inv _ _ e λ mark e.
+      given_inv _ _ e λ lower e.
+      given_inv _ _ e λ mark e.
       record {
         lower = ltb-true _ r lower;
         mark = ltb-true _ 3 mark;
-        default = λ q. choose-inv _ _ _ e (λ _ s. s) λ t _. absurd (eqb-false _ 2 t q);
-        no_default = λ q. choose-inv _ _ _ e (λ t _. absurd (q (eqb-true _ 2 t))) λ _ s. eqb-true _ 0 s;
+        default = λ q. choose_inv _ _ _ e (λ _ s. s) λ t _. absurd (eqb-false _ 2 t q);
+        no_default = λ q. choose_inv _ _ _ e (λ t _. absurd (q (eqb-true _ 2 t))) λ _ s. eqb-true _ 0 s;
       }
 
   alternative_sound_lem : (i : ℕ) → alternative_sound rows items r i ≡ true → Alternative i
   unfolding alternative_sound
   alternative_sound_lem i e =
-      given-inv _ _ e λ class e.
-      given-inv _ _ e λ number lower.
+      given_inv _ _ e λ class e.
+      given_inv _ _ e λ number lower.
       record { class = ltb-true _ 4 class; number = leb-true _ 2097151 number; lower = ltb-true _ r lower }
 
   module _ (e : row_sound rows items r ≡ true) where
     -- a kind without components, or one of the three groups
-    pub kind-cases {ℓ} : {X : Type ℓ} → (row_kind rows r < 10 → X)
+    pub kind_cases {ℓ} : {X : Type ℓ} → (row_kind rows r < 10 → X)
         → (row_kind rows r ≡ 10 → X) → (row_kind rows r ≡ 11 → X) → (row_kind rows r ≡ 12 → X) → X
-    kind-cases plain ten eleven twelve =
+    kind_cases plain ten eleven twelve =
         let (_, most) = kind_known e in
         cases_lt (row_kind rows r) 10 (λ _ l. plain l) λ _ g.
         cases_lt (row_kind rows r) 11 (λ _ l. ten (omega arith)) λ _ g.
@@ -131,10 +131,10 @@ module _ (rows items : List ℕ) (r : ℕ) where
     pub integer_row : row_kind rows r ≡ 2 → IntegerRow
     unfolding row_sound choose integer_sound
     integer_row k =
-        given-inv _ _ (rw k at e) λ flags e.
-        given-inv _ _ e λ lower e.
-        given-inv _ _ e λ upper e.
-        given-inv _ _ e λ both _.
+        given_inv _ _ (rw k at e) λ flags e.
+        given_inv _ _ e λ lower e.
+        given_inv _ _ e λ upper e.
+        given_inv _ _ e λ both _.
         record {
           flags = ltb-true _ 4 flags;
           no_lower = λ t. eqb-true _ 0 (rw t at lower);
@@ -147,10 +147,10 @@ module _ (rows items : List ℕ) (r : ℕ) where
     unfolding row_sound choose enumerated_sound range_inside
     enumerated_row k =
         let word : ℕ → ℕ = λ i. rank (item_word items i 0) in
-        given-inv _ _ (rw k at e) λ _ e.
-        given-inv _ _ e λ not_empty e.
-        given-inv _ _ e λ range e.
-        given-inv _ _ e λ _ ascends.
+        given_inv _ _ (rw k at e) λ _ e.
+        given_inv _ _ e λ not_empty e.
+        given_inv _ _ e λ range e.
+        given_inv _ _ e λ _ ascends.
         let between = ascending_between _ (λ i j k. less_trans (word i) (word j) (word k)) _ _ ascends in
         record {
           not_empty = ltb-true 0 _ not_empty;
@@ -164,9 +164,9 @@ module _ (rows items : List ℕ) (r : ℕ) where
         let k = row_kind rows r in
         let two : eqb k 2 ≡ false = ne_eqb k 2 (λ q. omega arith) in
         let three : eqb k 3 ≡ false = ne_eqb k 3 (λ q. omega arith) in
-        given-inv _ _ (rw (two, three, le-leb 7 k low, le-leb k 9 high) at e) λ flags e.
-        given-inv _ _ e λ sizes e.
-        given-inv _ _ e λ order _.
+        given_inv _ _ (rw (two, three, le-leb 7 k low, le-leb k 9 high) at e) λ flags e.
+        given_inv _ _ e λ sizes e.
+        given_inv _ _ e λ order _.
         let (least, most) = and_both (leb (row_a rows r) 65535) _ sizes in
         record {
           flags = ⊎_elim (λ t. inl (eqb-true _ 0 t)) (λ t. inr (eqb-true _ 2 t)) (or_either _ _ flags);
@@ -179,26 +179,26 @@ module _ (rows items : List ℕ) (r : ℕ) where
     pub sequence_row : row_kind rows r ≡ 10 → SequenceRow
     unfolding row_sound choose sequence_sound range_inside
     sequence_row k =
-        given-inv _ _ (rw k at e) λ _ e.
-        given-inv _ _ e λ range each.
+        given_inv _ _ (rw k at e) λ _ e.
+        given_inv _ _ e λ range each.
         record { range = leb-true _ _ range; component = λ i h. component_sound_lem _ (every_at _ _ _ each i h) }
 
     pub sequence_of_row : row_kind rows r ≡ 11 → SequenceOfRow
     unfolding row_sound choose sequence_of_sound range_inside
     sequence_of_row k =
-        given-inv _ _ (rw k at e) λ _ e.
-        given-inv _ _ e λ one e.
-        given-inv _ _ e λ range e.
-        given-inv _ _ e λ _ lower.
+        given_inv _ _ (rw k at e) λ _ e.
+        given_inv _ _ e λ one e.
+        given_inv _ _ e λ range e.
+        given_inv _ _ e λ _ lower.
         record { one = eqb-true _ 1 one; range = leb-true _ _ range; lower = ltb-true _ r lower }
 
     pub choice_row : row_kind rows r ≡ 12 → ChoiceRow
     unfolding row_sound choose choice_sound range_inside
     choice_row k =
-        given-inv _ _ (rw k at e) λ _ e.
-        given-inv _ _ e λ not_empty e.
-        given-inv _ _ e λ range e.
-        given-inv _ _ e λ each ascends.
+        given_inv _ _ (rw k at e) λ _ e.
+        given_inv _ _ e λ not_empty e.
+        given_inv _ _ e λ range e.
+        given_inv _ _ e λ each ascends.
         record {
           not_empty = ltb-true 0 _ not_empty;
           range = leb-true _ _ range;

@@ -9,11 +9,11 @@ use Rattle.x696.proofs.OutcomeLaws.{cases_lt}
 use Rattle.x696.specs.SoundTable.{Each}
 use Rattle.x696.specs.TableCheck.{given, every, ascending}
 
-pub given-inv {ℓ} : (t : Bool) (more : Unit {0} → Bool) {X : Type ℓ} → given t more ≡ true
+pub given_inv {ℓ} : (t : Bool) (more : Unit {0} → Bool) {X : Type ℓ} → given t more ≡ true
     → (t ≡ true → more tt ≡ true → X) → X
 unfolding given choose
-given-inv true more e f = f refl e
-given-inv false more e f = absurd (false≢true e)
+given_inv true more e f = f refl e
+given_inv false more e f = absurd (false≢true e)
 
 -- what holds of n places from the first on, taken apart and put together at the first
 module _ (P : ℕ → Type 0) (first n : ℕ) where
@@ -31,7 +31,7 @@ pub every_at : (f : ℕ → Bool) (first n : ℕ) → every f first n ≡ true �
 unfolding every
 every_at f first zero e = λ i h. absurd (not-suc-le-zero h)
 every_at f first (suc n) e =
-    given-inv _ _ e λ here later. each_all (λ i. f i ≡ true) first n here (every_at f (suc first) n later)
+    given_inv _ _ e λ here later. each_all (λ i. f i ≡ true) first n here (every_at f (suc first) n later)
 
 module _ (before : ℕ → ℕ → Bool) where
   abbrev BeforeNext : (i : ℕ) → Type 0
@@ -41,7 +41,7 @@ module _ (before : ℕ → ℕ → Bool) where
   unfolding ascending
   ascending_next first zero e = λ i h. absurd (not-suc-le-zero h)
   ascending_next first (suc n) e =
-      given-inv _ _ e λ here later. each_all BeforeNext first n here (ascending_next (suc first) n later)
+      given_inv _ _ e λ here later. each_all BeforeNext first n here (ascending_next (suc first) n later)
 
   -- where the order is transitive, neighbours in order put any two in order
   pub ascending_between : ((i j k : ℕ) → before i j ≡ true → before j k ≡ true → before i k ≡ true)

@@ -21,7 +21,7 @@ use Rattle.x696.proofs.TableTests.{each_first, each_later}
 use Rattle.x696.proofs.TableLaws.{sound_table}
 use Rattle.x696.proofs.TableTags.{tags_differ}
 use Rattle.x696.specs.SoundTable.{Component}
-use Rattle.x696.proofs.TableRows.{Alternative, kind-cases, sequence_row, sequence_of_row, choice_row}
+use Rattle.x696.proofs.TableRows.{Alternative, kind_cases, sequence_row, sequence_of_row, choice_row}
 use Rattle.x696.proofs.TableKinds.{leaf_type, sequence_type, sequence_of_type, choice_type}
 
 below_at : (w : ℕ) (s : List ℕ) (i : ℕ) → Below w s → get_or s i 0 < 2 ^ w
@@ -86,7 +86,7 @@ module _ (rows items : List ℕ) where
 
       row_formed : row_sound rows items r ≡ true → Formed r
       row_formed e =
-          kind-cases rows items r e
+          kind_cases rows items r e
           (λ k. rw (leaf_type rows items r k).1 tt)
           (λ k. rw (sequence_type rows items r e k) (components_formed _ _ (sequence_row rows items r e k).component))
           (λ k. rw (sequence_of_type rows items r e k) (smaller _ (sequence_of_row rows items r e k).lower))

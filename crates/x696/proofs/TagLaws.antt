@@ -5,7 +5,7 @@ use Rattle.std.proofs.Common.{sym}
 use native.Mathlib.Omega.{arith}
 use borrow.Author.Tests.{ltb-true, ltb-false, leb-true, lt-ltb, le-ltb, le-leb, eq-eqb}
 use Rattle.x696.specs.Outcome.{got, next, must, choose}
-use Rattle.x696.proofs.OutcomeLaws.{next-inv, must-inv, choose-inv, refused_never, cases_lt}
+use Rattle.x696.proofs.OutcomeLaws.{next_inv, must_inv, choose_inv, refused_never, cases_lt}
 use Rattle.x696.specs.Digits.{digits, from_digits, Below}
 use Rattle.x696.proofs.DigitsLaws.{digits_length, digits_below, from_digits_digits, digits_from_digits}
 use Rattle.x696.specs.Fewest.{fewest, is_fewest}
@@ -32,12 +32,12 @@ groups_sound : (p : ℕ) (s : List ℕ) {ds r : List ℕ} → Below 8 s → read
 unfolding read_groups
 groups_sound p [] b e = absurd (refused_never e)
 groups_sound p (x ∷ s) {ds} {r} b e =
-    choose-inv _ _ _ e
+    choose_inv _ _ _ e
     (λ t q.
     let m : x ∷ [] ≡ ds = cc in
     rw (← m) (unfold group_octets in cc, (ltb-true x 128 t, tt), omega arith))
     (λ t q.
-    next-inv _ _ q λ es r₁ was then.
+    next_inv _ _ q λ es r₁ was then.
     let a = groups_sound p s b.1 was in
     let m : (x - 128) ∷ es ≡ ds = cc in
     let h = ltb-false x 128 t in
@@ -70,17 +70,17 @@ tag_complete p (tag k n) r =
 pub tag_sound : (p : ℕ) (s : List ℕ) {t : Tag} {r : List ℕ} → Below 8 s → read_tag p s ≡ got t r → s ≡ tag_octets t ++ r
 unfolding read_tag tag_octets choose
 tag_sound p s {t} {r} b e =
-    next-inv _ _ e λ x r₁ was then.
+    next_inv _ _ e λ x r₁ was then.
     let a = octet_sound p s was in
-    choose-inv _ _ _ then
+    choose_inv _ _ _ then
     (λ u q.
     let m : tag (x / 64) (x % 64) ≡ t = cc in
     let h : 64 * (x / 64) + x % 64 ≡ x = omega arith in
     rw (← m, u, h) (cc a))
     (λ u q.
-    next-inv _ _ q λ ds r₂ was' then'.
-    must-inv _ _ _ _ then' λ v w.
-    must-inv _ _ _ _ w λ v' w'.
+    next_inv _ _ q λ ds r₂ was' then'.
+    must_inv _ _ _ _ then' λ v w.
+    must_inv _ _ _ _ w λ v' w'.
     let g = groups_sound p r₁ (rw a at b).1 was' in
     let m : tag (x / 64) (from_digits 7 ds) ≡ t = cc in
     let u' = ltb-false (x % 64) 63 u in

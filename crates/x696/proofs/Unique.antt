@@ -4,7 +4,7 @@
 use Rattle.std.specs.Prelude.{◌≡◌, refl, ◌↔◌, List, [], ◌∷◌, ◌++◌, ℕ, ◌+◌, ◌≤◌, length}
 use Rattle.std.proofs.Common.{ap, sym, ◌∙◌, append-nil, arith, leb-true, le-leb, eqb-true}
 use Rattle.x696.specs.Outcome.{got, next, must}
-use Rattle.x696.proofs.OutcomeLaws.{next-inv, must-inv}
+use Rattle.x696.proofs.OutcomeLaws.{next_inv, must_inv}
 use Rattle.x696.specs.Digits.{Below}
 use Rattle.x696.specs.Value.{Val, size}
 use Rattle.x696.specs.Types.{Ty}
@@ -61,9 +61,9 @@ read_message_sound : (t : Ty) (s : List ℕ) {v : Val} {r : Message} → Below 8
     → MessageOf t s v r
 unfolding read_message
 read_message_sound t s {v} {r} b e =
-    must-inv _ _ _ _ e λ short q.
-    next-inv _ _ q λ w r₁ was then.
-    must-inv _ _ _ _ then λ u q'.
+    must_inv _ _ _ _ e λ short q.
+    next_inv _ _ q λ w r₁ was then.
+    must_inv _ _ _ _ then λ u q'.
     let a = sound node_limit t (length s) (message s 0) b was in
     let qv : w ≡ v = cc in
     let qr : r₁ ≡ r = cc in

@@ -3,7 +3,7 @@
 use Rattle.std.specs.Prelude.{◌≡◌, refl, List, ◌++◌, ℕ, ◌*◌, ◌^◌, ◌<◌, ◌≤◌, length}
 use Rattle.std.proofs.Common.{append_assoc, arith, leb-true, lt-ltb, le-leb}
 use Rattle.x696.specs.Outcome.{got, next, must}
-use Rattle.x696.proofs.OutcomeLaws.{next-inv, must-inv}
+use Rattle.x696.proofs.OutcomeLaws.{next_inv, must_inv}
 use Rattle.x696.specs.Digits.{from_digits, Below}
 use Rattle.x696.proofs.DigitsLaws.{from_digits_lt}
 use Rattle.x696.specs.Fewest.{fewest, unsigned_octets, fewest_signed, signed_octets, signed_word}
@@ -35,10 +35,10 @@ pub unsigned_sound : (p : ℕ) (s : List ℕ) {n : ℕ} {r : List ℕ} → Below
     → (s ≡ variable_unsigned n ++ r) × (n < 2 ^ 64)
 unfolding read_unsigned variable_unsigned
 unsigned_sound p s {n} {r} b e =
-    next-inv _ _ e λ os r₁ was then.
-    must-inv _ _ _ _ then λ _ q.
-    must-inv _ _ _ _ q λ t u.
-    must-inv _ _ _ _ u λ t' v.
+    next_inv _ _ e λ os r₁ was then.
+    must_inv _ _ _ _ then λ _ q.
+    must_inv _ _ _ _ q λ t u.
+    must_inv _ _ _ _ u λ t' v.
     let a = read_run_sound p s b was in
     let m : from_digits 8 os ≡ n = cc in
     let qr : r₁ ≡ r = cc in
@@ -63,10 +63,10 @@ pub signed_sound : (p : ℕ) (s : List ℕ) {w : ℕ} {r : List ℕ} → Below 8
     → (s ≡ variable_signed w ++ r) × (w < 2 ^ 64)
 unfolding read_signed variable_signed
 signed_sound p s {w} {r} b e =
-    next-inv _ _ e λ os r₁ was then.
-    must-inv _ _ _ _ then λ _ q.
-    must-inv _ _ _ _ q λ t u.
-    must-inv _ _ _ _ u λ t' v.
+    next_inv _ _ e λ os r₁ was then.
+    must_inv _ _ _ _ then λ _ q.
+    must_inv _ _ _ _ q λ t u.
+    must_inv _ _ _ _ u λ t' v.
     let a = read_run_sound p s b was in
     let m : signed_word os ≡ w = cc in
     let qr : r₁ ≡ r = cc in

@@ -3,7 +3,7 @@
 use Rattle.std.specs.Prelude.{◌≡◌, refl, List, [], ◌∷◌, ◌++◌, ℕ, zero, suc, ◌+◌, ◌^◌, ◌<◌, length, take}
 use Rattle.std.proofs.Common.{ap, sym, ◌∙◌, append_assoc, arith, take-append-drop, length-take-le, ltb-true, leb-true, eqb-true}
 use Rattle.x696.specs.Outcome.{Outcome, got}
-use Rattle.x696.proofs.OutcomeLaws.{next-inv, must-inv, choose-inv, refused_never, cases}
+use Rattle.x696.proofs.OutcomeLaws.{next_inv, must_inv, choose_inv, refused_never, cases}
 use Rattle.x696.specs.Digits.{Below}
 use Rattle.x696.proofs.DigitsLaws.{below_split}
 use Rattle.x696.specs.Bits.{bit_octets}
@@ -81,20 +81,20 @@ node_in_passed (x ∷ y ∷ ws) cs at {k} {n} {r} b e =
 number_is : (kind p : ℕ) (x : Node) (q : Listed) {n : ℕ} {r : Listed} → number_if kind p x q ≡ got n r
     → ◌≡◌ {A = Outcome Listed Node} (got x q) (got (kind_number kind n) r)
 unfolding number_if
-number_is kind p (kind_number k m) q e = must-inv _ _ _ _ e λ t g. cc (eqb-true k kind t)
+number_is kind p (kind_number k m) q e = must_inv _ _ _ _ e λ t g. cc (eqb-true k kind t)
 
 node_passed : (kind : ℕ) (s : Listed) {n : ℕ} {r : Listed} → Below 64 s.words → node_at kind s ≡ got n r
     → Passed (n < 2 ^ 64) s (kind ∷ n ∷ []) [] 1 r
 unfolding node_at
 node_passed kind s b e =
-    next-inv _ _ e λ x q was then. node_in_passed s.words s.contents s.at b (was ∙ number_is kind _ x q then)
+    next_inv _ _ e λ x q was then. node_in_passed s.words s.contents s.at b (was ∙ number_is kind _ x q then)
 
 -- the octets of a string
 contents_passed : (p n : ℕ) (s : Listed) {os : List ℕ} {r : Listed} → Below 8 s.contents
     → contents_at p n s ≡ got os r → Passed (Below 8 os × (length os ≡ n)) s [] os 0 r
 unfolding contents_at
 contents_passed p n s b e =
-    must-inv _ _ _ _ e λ t q.
+    must_inv _ _ _ _ e λ t q.
     got_same (λ os r. Passed (Below 8 os × (length os ≡ n)) s [] os 0 r) q
     (let eq = sym (take-append-drop n s.contents) in
     record {
@@ -112,30 +112,30 @@ leaf_passed : (l : Leaf) (p n : ℕ) (s : Listed) {v : Val} {r : Listed} → n <
     → walk_leaf l p n s ≡ got v r → LeafWalked l n s v r
 unfolding walk_leaf leaf_kind
 leaf_passed boolean p n s h b e =
-    must-inv _ _ _ _ e λ t q.
+    must_inv _ _ _ _ e λ t q.
     got_same (LeafWalked boolean n s) q ([], refl, passed_nothing (boolean_fits (ltb-true n 2 t)))
 leaf_passed null p n s h b e =
-    must-inv _ _ _ _ e λ t q.
+    must_inv _ _ _ _ e λ t q.
     got_same (LeafWalked null n s) q ([], refl, passed_nothing (rw (eqb-true n 0 t) null_fits))
 leaf_passed (integer f a c) p n s h b e =
-    must-inv _ _ _ _ e λ t q.
+    must_inv _ _ _ _ e λ t q.
     got_same (LeafWalked (integer f a c) n s) q ([], refl, passed_nothing (integer_fits h t))
 leaf_passed (enumerated ns) p n s h b e =
-    must-inv _ _ _ _ e λ t q.
+    must_inv _ _ _ _ e λ t q.
     got_same (LeafWalked (enumerated ns) n s) q ([], refl, passed_nothing (enumerated_fits h t))
 leaf_passed (real w) p n s h b e =
-    must-inv _ _ _ _ e λ t q. must-inv _ _ _ _ q λ u g.
+    must_inv _ _ _ _ e λ t q. must_inv _ _ _ _ q λ u g.
     got_same (LeafWalked (real w) n s) g ([], refl, passed_nothing (real_fits (ltb-true n _ t) u))
 leaf_passed (octet_string f a c) p n s h b e =
-    next-inv _ _ e λ os q was then. must-inv _ _ _ _ then λ t g.
+    next_inv _ _ e λ os q was then. must_inv _ _ _ _ then λ t g.
     let o = contents_passed _ n s b was in
     got_same (LeafWalked (octet_string f a c) n s) g (os, refl, passed_as o (octets_fit o.fits.0 o.fits.1 t))
 leaf_passed (bit_string f a c) p n s h b e =
-    next-inv _ _ e λ os q was then. must-inv _ _ _ _ then λ t g. must-inv _ _ _ _ g λ u i.
+    next_inv _ _ e λ os q was then. must_inv _ _ _ _ then λ t g. must_inv _ _ _ _ g λ u i.
     let o = contents_passed _ (bit_octets n) s b was in
     got_same (LeafWalked (bit_string f a c) n s) i (os, refl, passed_as o (bits_fit o.fits.0 o.fits.1 t u))
 leaf_passed (visible_string f a c) p n s h b e =
-    next-inv _ _ e λ os q was then. must-inv _ _ _ _ then λ t g. must-inv _ _ _ _ g λ u i.
+    next_inv _ _ e λ os q was then. must_inv _ _ _ _ then λ t g. must_inv _ _ _ _ g λ u i.
     let o = contents_passed _ n s b was in
     got_same (LeafWalked (visible_string f a c) n s) i
     (os, refl, passed_as o (visible_fits o.fits.0 o.fits.1 t u))
@@ -152,7 +152,7 @@ times_passed : (t : Ty) (f : Listed → Outcome Listed Val)
 unfolding times nodes_of contents_of sizes value_count
 times_passed t f one zero s b o e = got_same (WalkedAll t zero s) e (passed_nothing (refl, no_elements))
 times_passed t f one (suc n) s b o e =
-    next-inv _ _ e λ v q was then. next-inv _ _ then λ vs r was' then'.
+    next_inv _ _ e λ v q was then. next_inv _ _ then λ vs r was' then'.
     let a = one s v q b o was in
     let h = left_below a b o in
     let c = times_passed t f one n q h.0 h.1 was' in
@@ -163,7 +163,7 @@ absent_passed : (d : ℕ) (t : Ty) (s : Listed) {v : Val} {r : Listed} → Below
     → WalkedComponent 1 d t s v r
 unfolding walk_absent missing nodes contents size
 absent_passed d t s b e =
-    next-inv _ _ e λ n q was then. must-inv _ _ _ _ then λ u g.
+    next_inv _ _ e λ n q was then. must_inv _ _ _ _ then λ u g.
     got_same (WalkedComponent 1 d t s) g (passed_as (rw (eqb-true n 0 u) at (node_passed 0 s b was)) (left_out refl))
 
 marked_passed : (m d : ℕ) (t : Ty) (s : Listed) {v : Val} {r : Listed}
@@ -177,7 +177,7 @@ component_passed : (f : Listed → Outcome Listed Val) (m d : ℕ) (t : Ty) (s :
 unfolding component_walk
 component_passed f zero d t s b one e = let a = one e in passed_as a (plain a.fits)
 component_passed f (suc zero) d t s b one e =
-    choose-inv _ _ _ e (λ u g. absent_passed d t s b g) (λ u g. marked_passed 0 d t s (one g))
+    choose_inv _ _ _ e (λ u g. absent_passed d t s b g) (λ u g. marked_passed 0 d t s (one g))
 component_passed f (suc (suc m)) d t s b one e = marked_passed (suc m) d t s (one e)
 
 -- the walk
@@ -193,25 +193,25 @@ mutual
   pub walk_sound : (t : Ty) (s : Listed) {v : Val} {r : Listed} → WellFormed t → Below 64 s.words
       → Below 8 s.contents → walk t s ≡ got v r → Walked t s v r
   walk_sound (leaf l) s w b o e =
-      next-inv _ _ e λ n q was then.
+      next_inv _ _ e λ n q was then.
       let a = node_passed _ s b was in
       let (os, is, c) = leaf_passed l _ n q a.fits (left_below a b o).1 then in
       rw is (passed_next a (passed_only c) refl (leaf_fits refl c.fits))
   walk_sound (sequence is) s w b o e =
-      next-inv _ _ e λ n q was then. must-inv _ _ _ _ then λ u g. next-inv _ _ g λ vs r was' then'.
+      next_inv _ _ e λ n q was then. must_inv _ _ _ _ then λ u g. next_inv _ _ g λ vs r was' then'.
       let a = node_passed _ s b was in
       let h = left_below a b o in
       let c = walk_components_sound is q w h.0 h.1 was' in
       got_same (Walked (sequence is) s) then' (passed_next a c (omega arith) (sequence_fits (eqb-true n _ u) c.fits))
   walk_sound (sequence_of t) s w b o e =
-      next-inv _ _ e λ n q was then. next-inv _ _ then λ vs r was' then'.
+      next_inv _ _ e λ n q was then. next_inv _ _ then λ vs r was' then'.
       let a = node_passed _ s b was in
       let h = left_below a b o in
       let c = times_passed t _ (λ s v r b o e. walk_sound t s w b o e) n q h.0 h.1 was' in
       got_same (Walked (sequence_of t) s) then'
       (passed_next a c (omega arith) (sequence_of_fits c.fits.0 a.fits c.fits.1))
   walk_sound (choice is) s w b o e =
-      next-inv _ _ e λ n q was then. must-inv _ _ _ _ then λ u g. next-inv _ _ g λ v r was' then'.
+      next_inv _ _ e λ n q was then. must_inv _ _ _ _ then λ u g. next_inv _ _ g λ v r was' then'.
       let a = node_passed _ s b was in
       let h = left_below a b o in
       let c = walk_alternative_sound is n q w.0 h.0 h.1 was' in
@@ -222,7 +222,7 @@ mutual
       → Below 64 s.words → Below 8 s.contents → walk_components is s ≡ got vs r → WalkedComponents is s vs r
   walk_components_sound no_items s w b o e = got_same (WalkedComponents no_items s) e (passed_nothing no_components)
   walk_components_sound (item m d t is) s w b o e =
-      next-inv _ _ e λ v q was then. next-inv _ _ then λ vs r was' then'.
+      next_inv _ _ e λ v q was then. next_inv _ _ then λ vs r was' then'.
       let a = component_passed _ m d t s b (λ g. walk_sound t s w.0 b o g) was in
       let h = left_below a b o in
       let c = walk_components_sound is q w.2 h.0 h.1 was' in
