@@ -1,5 +1,6 @@
-// What the programs of the gate share: the numbers of a case file, and replies in print.
+// What the programs of the gate share: their input, the numbers of a case file, and replies in print.
 #![tactic(auto)]
 
+pub mod input;
 pub mod numbers;
 pub mod show;

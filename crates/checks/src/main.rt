@@ -5,10 +5,11 @@
 
 ghost use Rattle.std.specs.Prelude.{◌≤◌, length};
 
+use cases::input::read_full;
 use cases::numbers::{line_end, list_at};
 use cases::show::show_reply;
 use std::io;
-use std::io::{BufWriter, Read, Write};
+use std::io::Write;
 use table::check::check;
 
 // The reply on the first n and m words, which are there.
@@ -54,16 +55,13 @@ fn run<W: Write>(to: &mut W, s: &[u8]) -> io::Result<()> {
     Ok(())
 }
 
-// The first megabyte of standard input.
-fn megabyte(rt: &(impl Input + AllocGlobal)) -> io::Result<Vec<u8>> {
-    let mut text = Vec::new(rt.alloc());
-    rt.reader().take(1048576).read_to_end(&mut text)?;
-    Ok(text)
+fn megabyte() -> [u8; 1048576] {
+    [0u8; 1048576]
 }
 
 fn main(rt: HostRuntime) -> io::Result<()> {
-    let text = megabyte(&rt)?;
-    let mut to = BufWriter::new(rt.alloc(), io::writer(&rt))?;
-    run(&mut to, text.as_slice())?;
-    to.flush()
+    let mut buf = megabyte();
+    let n = read_full(&mut rt.reader(), &mut buf)?;
+    let mut to = io::writer(&rt);
+    run(&mut to, &buf[..n])
 }

@@ -9,8 +9,7 @@ use Rattle.x696.specs.Path.{no_child, child, child_at, child_before}
 use Rattle.x696.specs.PresencePlace.{bits_before}
 use Rattle.x696.specs.Operations.{node_limit}
 use Rattle.x696.specs.Table.{row_kind, item_width, type_of}
-use Rattle.x696.specs.SoundTable.{Each}
-use Rattle.x696.specs.SoundTable.{Component}
+use Rattle.x696.specs.SoundTable.{Each, Component}
 use Rattle.octets.specs.Presence.{bit_at}
 use Rattle.octets.specs.declared.answers.Fault.{Fault}
 use Rattle.finding.specs.Passing.{Fitting, components_at}

@@ -3,9 +3,7 @@ ghost use Rattle.std.specs.Prelude.{◌≡◌, ℕ, ◌+◌, ◌/◌, ◌<◌, �
 ghost use Rattle.x696.specs.Read.{message, times, read, read_component};
 ghost use Rattle.x696.specs.Operations.{node_limit};
 ghost use Rattle.x696.specs.Table.{row_width, item_width, type_of};
-ghost use Rattle.x696.specs.SoundTable.{SoundTable};
-ghost use Rattle.x696.specs.SoundTable.{Each};
-ghost use Rattle.x696.specs.SoundTable.{Component};
+ghost use Rattle.x696.specs.SoundTable.{SoundTable, Each, Component};
 ghost use Rattle.octets.specs.Presence.{bit_at};
 ghost use Rattle.kinds.specs.Run.{number_of};
 ghost use Rattle.finding.specs.Passing.{Passed, Fitting, components_at, left_out_at, none};

@@ -18,11 +18,11 @@ use Rattle.x696.specs.Reply.{done_reply, done, then}
 use Rattle.x696.specs.Operations.{node_limit, octet_limit, value_in, validate, decode, over}
 use Rattle.x696.specs.Editing.{place_of, edit, read_setting, show_text, shown_octets}
 use Rattle.x696.specs.Result.{is_done, result_of, decoded}
-use Rattle.x696.specs.Edits.{Edits}
+use Rattle.x696.specs.Edits.{Edits, Fine}
 use Rattle.x696.specs.Component.{Component, Kept}
 use Rattle.x696.specs.LongerRoad.{longer_road, SameResult}
 use Rattle.x696.proofs.ApartLaws.{apart_iff}
-use Rattle.x696.proofs.EditLaws.{Fine, edit_done, edit_gives, edit_same, edit_undone, edit_validates}
+use Rattle.x696.proofs.EditLaws.{edit_done, edit_gives, edit_same, edit_undone, edit_validates}
 use Rattle.x696.proofs.LongerRoadLaws.{longer_road_lem}
 use Rattle.x696.proofs.ComponentLaws.{component_found, component_order, component_kept}
 use Rattle.x696.proofs.ReadingLaws.{setting_decoded, setting_found, setting_edited, setting_kept}

@@ -12,10 +12,9 @@ use borrow.Author.Tests.{le-leb, lt-leb}
 use Rattle.x696.specs.Outcome.{choose}
 use Rattle.x696.proofs.OutcomeLaws.{cases, cases_lt}
 use Rattle.x696.specs.TableCheck.{given, greatest}
-use Rattle.x696.specs.SoundTable.{Each}
 use Rattle.x696.proofs.TableTests.{each_first, each_later, given_inv}
 use Rattle.x696.specs.TableFault.{TableFault, sound, bad_size, bad_row, row_sound, row_nesting, rows_fault}
-use Rattle.x696.specs.SoundTable.{nestings_of}
+use Rattle.x696.specs.SoundTable.{Each, nestings_of}
 use Rattle.x696.proofs.TableKinds.{no_group}
 use Rattle.x696.proofs.TableNesting.{nestings_at}
 use Rattle.x696.proofs.TableRows.{kind_cases, sequence_row, choice_row}

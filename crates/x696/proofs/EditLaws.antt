@@ -24,7 +24,7 @@ use Rattle.x696.specs.Operations.{node_limit, octet_limit, asked, read_message, 
 use Rattle.x696.specs.Operations.{value_in, validate, Written, written}
 use Rattle.x696.specs.Editing.{place_of, place_in, edited, edited_octets, edit}
 use Rattle.x696.specs.Result.{is_done, result_of}
-use Rattle.x696.specs.Edits.{Edits}
+use Rattle.x696.specs.Edits.{Edits, Fine}
 use Rattle.x696.proofs.AskedLaws.{asked_cases, outcome_cases, held_value}
 use Rattle.x696.proofs.Unique.{read_message_iff}
 use Rattle.x696.proofs.ListLaws.{walk_list_complete, walk_list_sound}
@@ -53,13 +53,7 @@ module _ (t : Ty) (w : Val) (out : List ℕ) where
       (then (then (unless (leb (size w) node_limit) 10 4 0 (done w)) λ w. result_fits (encode t w)) λ os. room_for os out)
       out
 
-  -- the result is within its limits
-  pub record Fine : Type 0 where
-    pub few : size w ≤ node_limit
-    pub short : length (encode t w) ≤ octet_limit
-    pub room : length (encode t w) ≤ length out
-
-  pub finished_fine : Fine
+  pub finished_fine : Fine t w out
       → Finished ≡ record { reply = done_reply 0 (length (encode t w)); out = over (encode t w) out }
   unfolding then unless result_fits room_for written answer
   finished_fine f =
@@ -69,7 +63,7 @@ module _ (t : Ty) (w : Val) (out : List ℕ) where
         le-leb (length (encode t w)) (length out) f.room,
       )
 
-  fine_finished : is_done Finished.reply ≡ true → Fine
+  fine_finished : is_done Finished.reply ≡ true → Fine t w out
   unfolding then unless result_fits room_for written answer
   fine_finished d =
       cases (leb (size w) node_limit)

@@ -11,8 +11,8 @@ use borrow.Author.Tests.{lt-ltb, ne_eqb, le-leb, ltb-true, leb-true, eqb-true, e
 use Rattle.x696.specs.Outcome.{choose}
 use Rattle.x696.proofs.OutcomeLaws.{choose_inv, cases_lt, and_both, or_either}
 use Rattle.x696.specs.Integer.{rank, has_lower, has_upper, is_unsigned}
-use Rattle.x696.specs.Table.{row_kind, row_flags, row_a, row_b, row_first, row_count, item_width, item_word, type_of}
-use Rattle.x696.specs.TableCheck.{default_sound, range_inside, integer_sound, enumerated_sound, string_sound}
+use Rattle.x696.specs.Table.{row_kind, row_flags, row_a, row_b, row_first, row_count, item_width, item_word}
+use Rattle.x696.specs.TableCheck.{range_inside, integer_sound, enumerated_sound, string_sound}
 use Rattle.x696.specs.TableCheck.{component_sound, sequence_sound, sequence_of_sound, alternative_sound, choice_sound}
 use Rattle.x696.specs.TableFault.{row_sound}
 use Rattle.x696.specs.SoundTable.{Component, Each}

@@ -1,15 +1,22 @@
 -- What an edit that is DONE did: the message s held a value, the path led to a component of it, the new list was that
 -- of a component which fits there, and s' holds the value with that component in its place. `EditLaws` proves it.
 -- Assumes nothing.
-use Rattle.std.specs.Prelude.{◌≡◌, List, ℕ}
-use Rattle.x696.specs.Value.{Val, nodes, contents}
+use Rattle.std.specs.Prelude.{◌≡◌, List, ℕ, ◌≤◌, length}
+use Rattle.x696.specs.Value.{Val, size, nodes, contents}
 use Rattle.x696.specs.Types.{Ty}
 use Rattle.x696.specs.Fits.{Fits, FitsComponent}
 use Rattle.x696.specs.Encode.{encode}
 use Rattle.x696.specs.Table.{type_of}
 use Rattle.x696.specs.Path.{found, find, replace}
 use Rattle.x696.specs.Reply.{done}
-use Rattle.x696.specs.Operations.{value_in}
+use Rattle.x696.specs.Operations.{node_limit, octet_limit, value_in}
+
+-- the result is within its limits
+module _ (t : Ty) (w : Val) (out : List ℕ) where
+  pub record Fine : Type 0 where
+    pub few : size w ≤ node_limit
+    pub short : length (encode t w) ≤ octet_limit
+    pub room : length (encode t w) ≤ length out
 
 pub record Edits (rows items : List ℕ) (r : ℕ) (s p ws cs s' : List ℕ) : Type 0 where
   -- the value that s holds, and the component: mark and default, type, old value and new

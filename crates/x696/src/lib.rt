@@ -1,2 +1,2 @@
-// No code: the definitions of document 01 and of X.696, and the laws about them, stand in specs/.
+// No code: the definitions of document 01 and of X.696 stand in specs/, the laws about them in proofs/.
 #![tactic(auto)]

@@ -1,7 +1,6 @@
 -- The answer of `read_choice` is the outcome of reading a CHOICE, its node counted: one law for each return.
 -- The answer of `read_member` is the outcome of reading one member, missing or carried: one law for each return.
 -- The answer of `read_members` is the outcome of reading the members: one law for each return.
--- Invariant: what is left of the members is to the whole as `Chain` says; measure: the members left.
 -- The answer of `read_row` is the outcome of reading a value: a node too many, or by the row's kind.
 -- The answer of `read_sequence` is the outcome of reading a SEQUENCE, its node counted: one law for each return.
 -- The answer of `read_sequence_of` is the outcome of reading a SEQUENCE OF, its node counted: one law for each return.

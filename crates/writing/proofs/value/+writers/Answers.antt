@@ -1,8 +1,6 @@
 -- The answer of `write_choice` is the outcome of walking a CHOICE behind its node: one law for each return.
 -- The answer of `write_member` is the outcome of walking one component, its presence bit noted: one law for each return.
 -- The answer of `write_members` is the outcome of walking the members of a group: one law for each return.
--- Invariant: what is left of the members ends the whole as `Rest` says, and b presence bits are noted;
--- measure: the members left.
 -- The answer of `write_row` is the outcome of walking a value: its node, then by the row's kind.
 -- The answer of `write_sequence` is the outcome of walking a SEQUENCE behind its node: one law for each return.
 -- The answer of `write_sequence_of` is the outcome of walking a SEQUENCE OF behind its node.
