@@ -19,12 +19,11 @@ use Rattle.x696.specs.Length.{read_run}
 use Rattle.x696.specs.Variable.{read_unsigned, read_signed}
 use Rattle.x696.specs.Enumerated.{read_enumerated}
 use Rattle.octets.specs.Answers.{RunAnswer, NumberAnswer, unsigned_in, signed_in, long_number}
-use Rattle.octets.specs.declared.answers.Fault.{Fault}
+use Rattle.std.proofs.Common.{Result, Ok, Err}
 use Rattle.octets.specs.declared.answers.Piece.{Piece}
-use Rattle.octets.specs.declared.answers.ReadRun.{ReadRun}
-use Rattle.octets.specs.declared.answers.ReadRun.TheVariants.{Got as GotRun, Refused as NoRun}
-use Rattle.octets.specs.declared.answers.ReadNumber.{ReadNumber}
-use Rattle.octets.specs.declared.answers.ReadNumber.TheVariants.{Refused as NoNumber}
+use Rattle.octets.specs.declared.answers.Number.{Number}
+use Rattle.octets.specs.declared.faults.Fault.{Fault}
+use Rattle.octets.specs.declared.answers.Piece.{Piece}
 use Rattle.octets.proofs.Answered.{next_refused, next_got, number_fault, number_from}
 use Rattle.octets.proofs.CountedRuns.{octet_past, octet_at, length_run, run_lacks, run_there, must_either}
 
@@ -99,28 +98,28 @@ module _ (msg : List ℕ) (start k p : ℕ) (h : start + k ≤ length msg) (w : 
           judged_good Os Rest _ k p _ len (sym ew ∙ f) signed_one g ∙ rw (len, ← e, ← ex)
 
 -- ---- the number that a determinant counts
-module _ (msg : List ℕ) (at p : ℕ) {x : ReadRun} (w : RunAnswer msg (read_run p (drop at msg)) at x) where
-  pub unsigned_stop : (f : Fault) → x ≡ NoRun f → NumberAnswer msg (read_unsigned p (drop at msg)) at (NoNumber f)
+module _ (msg : List ℕ) (at p : ℕ) {x : Result Piece Fault} (w : RunAnswer msg (read_run p (drop at msg)) at x) where
+  pub unsigned_stop : (f : Fault) → x ≡ Err f → NumberAnswer msg (read_unsigned p (drop at msg)) at (Err f)
   unfolding read_unsigned
   unsigned_stop f e = number_fault f (next_refused _ (w.stopped f e))
 
-  pub signed_stop : (f : Fault) → x ≡ NoRun f → NumberAnswer msg (read_signed p (drop at msg)) at (NoNumber f)
+  pub signed_stop : (f : Fault) → x ≡ Err f → NumberAnswer msg (read_signed p (drop at msg)) at (Err f)
   unfolding read_signed
   signed_stop f e = number_fault f (next_refused _ (w.stopped f e))
 
-  module _ (y : Piece) (e : x ≡ GotRun y) where
+  module _ (y : Piece) (e : x ≡ Ok y) where
     abbrev Counted : List ℕ
     Counted = take y.length.0 (drop y.start msg)
 
     abbrev After : List ℕ
     After = drop (y.start + y.length.0) msg
 
-    pub unsigned_goes : {r : ReadNumber} → NumberAnswer msg (unsigned_in p Counted After) y.start r
+    pub unsigned_goes : {r : Result Number Fault} → NumberAnswer msg (unsigned_in p Counted After) y.start r
         → NumberAnswer msg (read_unsigned p (drop at msg)) at r
     unfolding read_unsigned unsigned_in
     unsigned_goes = number_from (next_got _ (w.went y e).reads) (w.went y e).ahead
 
-    pub signed_goes : {r : ReadNumber} → NumberAnswer msg (signed_in p Counted After) y.start r
+    pub signed_goes : {r : Result Number Fault} → NumberAnswer msg (signed_in p Counted After) y.start r
         → NumberAnswer msg (read_signed p (drop at msg)) at r
     unfolding read_signed signed_in
     signed_goes = number_from (next_got _ (w.went y e).reads) (w.went y e).ahead

@@ -18,28 +18,32 @@ use Rattle.x696.proofs.FewestLaws.{fewest_is}
 use Rattle.x696.specs.Length.{octet}
 use Rattle.x696.specs.Tag.{Tag as TagOf, tag, group_octets, tag_octets, read_tag}
 use Rattle.octets.specs.Answers.{TagAnswer, TagFound, tag_read, fault, long_tag, capped}
+use Rattle.std.proofs.Common.{Result, Ok, Err}
+use Rattle.octets.specs.Cause.{number_of}
+use Rattle.octets.specs.declared.faults.Cause.{Cause}
+use Rattle.octets.specs.declared.faults.Cause.TheVariants.{Short, NotCanonical}
+use Rattle.octets.specs.declared.faults.Fault.{Fault}
 use Rattle.octets.specs.declared.answers.Tag.{Tag}
-use Rattle.octets.specs.declared.answers.ReadTag.{ReadTag}
-use Rattle.octets.specs.declared.answers.ReadTag.TheVariants.{Got, Refused}
 use Rattle.octets.proofs.Groups.{Grouped, grouped_none, grouped_reads, grouped_value, grouped_fewest}
 use Rattle.octets.proofs.Groups.{capped_low, capped_below, capped_above}
 
 -- ---- answers
-module _ {msg : List ℕ} {o : Outcome (List ℕ) TagOf} {at : ℕ} {r : ReadTag} where
-  pub tag_refused : {k q : ℕ} → o ≡ refused k q → r ≡ Refused (fault k q) → TagAnswer msg o at r
-  tag_refused e f = record {
+module _ {msg : List ℕ} {o : Outcome (List ℕ) TagOf} {at : ℕ} where
+  pub tag_refused : {k : Cause} {p : ℕ} {f : Fault} → o ≡ refused (number_of k) p → f ≡ fault k p
+      → TagAnswer msg o at (Err f)
+  tag_refused e h = record {
     went = λ x g. let z : ◌≡◌ {A = ℕ} 0 1 = cc in absurd (omega arith);
     stopped = λ y g. cc;
   }
 
-  pub tag_got : {t : Tag} → TagFound msg o at t → r ≡ Got t → TagAnswer msg o at r
+  pub tag_got : {r : Result Tag Fault} {t : Tag} → TagFound msg o at t → r ≡ Ok t → TagAnswer msg o at r
   tag_got {t} w f = record {
     went = λ x g. let q : t ≡ x = cc in rw (← q) w;
     stopped = λ y g. let z : ◌≡◌ {A = ℕ} 0 1 = cc in absurd (omega arith);
   }
 
 -- the same outcome, read from an earlier place
-pub tag_from : {msg : List ℕ} {o o' : Outcome (List ℕ) TagOf} {at b : ℕ} {r : ReadTag} → o ≡ o' → at ≤ b
+pub tag_from : {msg : List ℕ} {o o' : Outcome (List ℕ) TagOf} {at b : ℕ} {r : Result Tag Fault} → o ≡ o' → at ≤ b
     → TagAnswer msg o' b r → TagAnswer msg o at r
 tag_from e h w = record {
   went = λ x g.
@@ -56,8 +60,8 @@ tag_from e h w = record {
 
 -- ---- the long form
 module _ (msg : List ℕ) (start class p : ℕ) where
-  pub long_none : {i n : ℕ} {r : ReadTag} → Grouped msg start i n → length msg ≤ i → r ≡ Refused (fault 5 p)
-      → TagAnswer msg (long_tag class p (drop start msg)) start r
+  pub long_none : {i n : ℕ} {f : Fault} → Grouped msg start i n → length msg ≤ i → f ≡ fault Short p
+      → TagAnswer msg (long_tag class p (drop start msg)) start (Err f)
   unfolding long_tag next
   long_none w h e = tag_refused (rw (grouped_none w h p)) e
 
@@ -72,8 +76,8 @@ module _ (msg : List ℕ) (start class p : ℕ) where
     unfolding long_tag next
     long_is = rw (grouped_reads w h ex bx ey g p, grouped_fewest w h ex bx ey g)
 
-    pub long_low : {r : ReadTag} → y < 63 → r ≡ Refused (fault 6 p)
-        → TagAnswer msg (long_tag class p (drop start msg)) start r
+    pub long_low : {f : Fault} → y < 63 → f ≡ fault NotCanonical p
+        → TagAnswer msg (long_tag class p (drop start msg)) start (Err f)
     unfolding must
     long_low l e =
         let s = capped_below (from_digits 7 ds) 63 (omega arith) (rw (grouped_value w h ex bx ey g) at l) in
@@ -83,13 +87,13 @@ module _ (msg : List ℕ) (start class p : ℕ) where
       big : 63 ≤ from_digits 7 ds
       big = capped_above (from_digits 7 ds) 63 (rw (grouped_value w h ex bx ey g) at s)
 
-      pub long_lead : {r : ReadTag} → d ≡ 128 → r ≡ Refused (fault 6 p)
-          → TagAnswer msg (long_tag class p (drop start msg)) start r
+      pub long_lead : {f : Fault} → d ≡ 128 → f ≡ fault NotCanonical p
+          → TagAnswer msg (long_tag class p (drop start msg)) start (Err f)
       unfolding must
       long_lead z e =
           tag_refused (long_is ∙ rw (le-leb 63 (from_digits 7 ds) big, eq-eqb (get_or msg start 0) 128 (sym ed ∙ z))) e
 
-      pub long_found : {r : ReadTag} → (d ≡ 128 → ⊥) → r ≡ Got (tag_read class y (i + 1))
+      pub long_found : {r : Result Tag Fault} → (d ≡ 128 → ⊥) → r ≡ Ok (tag_read class y (i + 1))
           → TagAnswer msg (long_tag class p (drop start msg)) start r
       unfolding must
       long_found z e =
@@ -103,8 +107,8 @@ module _ (msg : List ℕ) (start class p : ℕ) where
 
 -- ---- the whole tag
 module _ (msg : List ℕ) (at p : ℕ) where
-  pub tag_past : {r : ReadTag} → length msg ≤ at → r ≡ Refused (fault 5 p)
-      → TagAnswer msg (read_tag p (drop at msg)) at r
+  pub tag_past : {f : Fault} → length msg ≤ at → f ≡ fault Short p
+      → TagAnswer msg (read_tag p (drop at msg)) at (Err f)
   unfolding read_tag octet next
   tag_past h e = tag_refused (rw (drop_of_length-le msg h)) e
 
@@ -112,7 +116,7 @@ module _ (msg : List ℕ) (at p : ℕ) where
     first : drop at msg ≡ x ∷ drop (at + 1) msg
     first = rw (ex, add-one at) (drop-cons msg at 0 h)
 
-    pub tag_short : {r : ReadTag} → x % 64 < 63 → r ≡ Got (tag_read (x / 64) (x % 64) (at + 1))
+    pub tag_short : {r : Result Tag Fault} → x % 64 < 63 → r ≡ Ok (tag_read (x / 64) (x % 64) (at + 1))
         → TagAnswer msg (read_tag p (drop at msg)) at r
     unfolding read_tag octet next choose
     tag_short l e =
@@ -124,7 +128,7 @@ module _ (msg : List ℕ) (at p : ℕ) where
           ahead = omega arith;
         }) e
 
-    pub tag_long : {r : ReadTag} → 63 ≤ x % 64 → TagAnswer msg (long_tag (x / 64) p (drop (at + 1) msg)) (at + 1) r
+    pub tag_long : {r : Result Tag Fault} → 63 ≤ x % 64 → TagAnswer msg (long_tag (x / 64) p (drop (at + 1) msg)) (at + 1) r
         → TagAnswer msg (read_tag p (drop at msg)) at r
     unfolding read_tag octet next choose long_tag
     tag_long l w = tag_from (rw (first, le-ltb (x % 64) 63 l)) (omega arith) w

@@ -1,29 +1,23 @@
 -- What a reader's answer says, in the terms of X.696's outcomes: of a refusal its number and place, of a reading what
 -- was read and where the octets after it begin. `at` is where the reader began: what it read lies behind it, inside the
 -- message. Assumes nothing.
-use Rattle.std.specs.Prelude.{◌≡◌, cond, List, ℕ, ◌+◌, ◌≤◌, length, take, drop, ltb, leb}
+use Rattle.std.specs.Prelude.{Result, Ok, Err, ◌≡◌, cond, List, ℕ, ◌+◌, ◌≤◌, length, take, drop, ltb, leb}
 use Rattle.x696.specs.Outcome.{Outcome, refused, got, next, must}
 use Rattle.x696.specs.Digits.{from_digits}
 use Rattle.x696.specs.Fewest.{is_fewest, is_fewest_signed, signed_word}
 use Rattle.x696.specs.Length.{run}
 use Rattle.x696.specs.Tag.{Tag as TagOf, tag, read_groups}
+use Rattle.octets.specs.Cause.{number_of}
 use Rattle.octets.specs.declared.units.Octets.{Octets}
-use Rattle.octets.specs.declared.answers.Fault.{Fault}
+use Rattle.octets.specs.declared.faults.Cause.{Cause}
+use Rattle.octets.specs.declared.faults.Fault.{Fault}
 use Rattle.octets.specs.declared.answers.Piece.{Piece}
-use Rattle.octets.specs.declared.answers.ReadRun.{ReadRun}
-use Rattle.octets.specs.declared.answers.ReadRun.TheVariants.{Got as GotRun, Refused as NoRun}
 use Rattle.octets.specs.declared.answers.Number.{Number}
-use Rattle.octets.specs.declared.answers.ReadNumber.{ReadNumber}
-use Rattle.octets.specs.declared.answers.ReadNumber.TheVariants.{Got as GotNumber, Refused as NoNumber}
 use Rattle.octets.specs.declared.answers.Quantity.{Quantity}
-use Rattle.octets.specs.declared.answers.ReadQuantity.{ReadQuantity}
-use Rattle.octets.specs.declared.answers.ReadQuantity.TheVariants.{Got as GotQuantity, Refused as NoQuantity}
 use Rattle.octets.specs.declared.answers.Tag.{Tag}
-use Rattle.octets.specs.declared.answers.ReadTag.{ReadTag}
-use Rattle.octets.specs.declared.answers.ReadTag.TheVariants.{Got as GotTag, Refused as NoTag}
 
-abbrev pub fault : (number place : ℕ) → Fault
-fault n p = record { number = n; place = p }
+abbrev pub fault : (cause : Cause) → (place : ℕ) → Fault
+fault c p = record { cause = c; place = p }
 
 -- ---- a run of octets
 abbrev pub octets_of : ℕ → Octets
@@ -37,9 +31,9 @@ pub record RunFound (msg : List ℕ) (o : Outcome (List ℕ) (List ℕ)) (at : �
   pub inside : x.start + x.length.0 ≤ length msg
   pub ahead : at ≤ x.start
 
-pub record RunAnswer (msg : List ℕ) (o : Outcome (List ℕ) (List ℕ)) (at : ℕ) (r : ReadRun) : Type 0 where
-  pub went : (x : Piece) → r ≡ GotRun x → RunFound msg o at x
-  pub stopped : (f : Fault) → r ≡ NoRun f → o ≡ refused f.number f.place
+pub record RunAnswer (msg : List ℕ) (o : Outcome (List ℕ) (List ℕ)) (at : ℕ) (r : Result Piece Fault) : Type 0 where
+  pub went : (x : Piece) → r ≡ Ok x → RunFound msg o at x
+  pub stopped : (f : Fault) → r ≡ Err f → o ≡ refused (number_of f.cause) f.place
 
 -- ---- a number
 abbrev pub number : (value next : ℕ) → Number
@@ -50,14 +44,14 @@ pub record NumberFound (msg : List ℕ) (o : Outcome (List ℕ) ℕ) (at value n
   pub inside : next ≤ length msg
   pub ahead : at ≤ next
 
-pub record NumberAnswer (msg : List ℕ) (o : Outcome (List ℕ) ℕ) (at : ℕ) (r : ReadNumber) : Type 0 where
-  pub went : (x : Number) → r ≡ GotNumber x → NumberFound msg o at x.value x.next
-  pub stopped : (f : Fault) → r ≡ NoNumber f → o ≡ refused f.number f.place
+pub record NumberAnswer (msg : List ℕ) (o : Outcome (List ℕ) ℕ) (at : ℕ) (r : Result Number Fault) : Type 0 where
+  pub went : (x : Number) → r ≡ Ok x → NumberFound msg o at x.value x.next
+  pub stopped : (f : Fault) → r ≡ Err f → o ≡ refused (number_of f.cause) f.place
 
 -- a quantity is a number of occurrences
-pub record QuantityAnswer (msg : List ℕ) (o : Outcome (List ℕ) ℕ) (at : ℕ) (r : ReadQuantity) : Type 0 where
-  pub went : (x : Quantity) → r ≡ GotQuantity x → NumberFound msg o at x.many.0 x.next
-  pub stopped : (f : Fault) → r ≡ NoQuantity f → o ≡ refused f.number f.place
+pub record QuantityAnswer (msg : List ℕ) (o : Outcome (List ℕ) ℕ) (at : ℕ) (r : Result Quantity Fault) : Type 0 where
+  pub went : (x : Quantity) → r ≡ Ok x → NumberFound msg o at x.many.0 x.next
+  pub stopped : (f : Fault) → r ≡ Err f → o ≡ refused (number_of f.cause) f.place
 
 -- ---- a tag: its number as far as 2,097,152, one above the greatest of a table
 unfoldable pub capped : ℕ → ℕ
@@ -73,9 +67,9 @@ pub record TagFound (msg : List ℕ) (o : Outcome (List ℕ) TagOf) (at : ℕ) (
   pub inside : x.next ≤ length msg
   pub ahead : at ≤ x.next
 
-pub record TagAnswer (msg : List ℕ) (o : Outcome (List ℕ) TagOf) (at : ℕ) (r : ReadTag) : Type 0 where
-  pub went : (x : Tag) → r ≡ GotTag x → TagFound msg o at x
-  pub stopped : (f : Fault) → r ≡ NoTag f → o ≡ refused f.number f.place
+pub record TagAnswer (msg : List ℕ) (o : Outcome (List ℕ) TagOf) (at : ℕ) (r : Result Tag Fault) : Type 0 where
+  pub went : (x : Tag) → r ≡ Ok x → TagFound msg o at x
+  pub stopped : (f : Fault) → r ≡ Err f → o ≡ refused (number_of f.cause) f.place
 
 -- ---- parts of the definitions of X.696, under names
 -- a length determinant in the long form, from its k subsequent octets on, and what it counts

@@ -1,3 +1,4 @@
 pub mod Answers
+pub mod Cause
 pub mod Presence
 pub mod Touched

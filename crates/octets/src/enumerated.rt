@@ -4,42 +4,46 @@ ghost use Rattle.std.proofs.lemmas.List.Edits.{sets};
 ghost use Rattle.x696.specs.Enumerated.{enumerated_octets, read_enumerated};
 ghost use Rattle.octets.specs.Answers.{NumberAnswer, long_number};
 
-use crate::answers::ReadNumber;
+use crate::answers::Number;
+use crate::faults::{Cause, Fault};
 use crate::fewest::fewest_signed;
 use crate::numbers::put_number;
-use crate::variable::{found, refused, signed_in};
+use crate::variable::signed_in;
 use crate::words::{octet, put_octet};
 
 // The long form, from its k subsequent octets on (11.4).
-fn long_number(msg: &[u8], start: usize, k: usize, place: usize) -> ReadNumber
+fn long_number(msg: &[u8], start: usize, k: usize, place: usize) -> Result<Number, Fault>
     requires { (start ≤ length msg.now) × (k ≤ 127) }
     ensures { NumberAnswer msg.now (long_number place k (drop start msg.now)) start result }
 {
     // at least one subsequent octet (11.4)
     if k == 0 {
-        return refused(6, place);
+        return Err(Cause::NotCanonical.at(place));
     }
     if msg.len() - start < k {
-        return refused(5, place);
+        return Err(Cause::Short.at(place));
     }
     // one octet below 128: the short form is due (31.5)
     if k == 1 {
         if octet(msg, start) < 128 {
-            return refused(6, place);
+            return Err(Cause::NotCanonical.at(place));
         }
     }
     signed_in(msg, start, k, place)
 }
 
-pub fn read_enumerated(msg: &[u8], at: usize, place: usize) -> ReadNumber
+pub fn read_enumerated(msg: &[u8], at: usize, place: usize) -> Result<Number, Fault>
     ensures { NumberAnswer msg.now (read_enumerated place (drop at msg.now)) at result }
 {
     if msg.len() <= at {
-        return refused(5, place);
+        return Err(Cause::Short.at(place));
     }
     let x = octet(msg, at);
     if x < 128 {
-        return found(x, at + 1);
+        return Ok(Number {
+            value: x,
+            next: at + 1,
+        });
     }
     long_number(msg, at + 1, x as usize - 128, place)
 }

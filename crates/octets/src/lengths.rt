@@ -2,77 +2,66 @@
 ghost use Rattle.std.specs.Prelude.{◌≡◌, ◌+◌, ◌^◌, ◌<◌, ◌≤◌, length, drop};
 ghost use Rattle.std.proofs.lemmas.List.Edits.{sets};
 ghost use Rattle.x696.specs.Length.{run, length_octets, read_run};
-ghost use Rattle.octets.specs.Answers.{RunAnswer, piece, fault, long_run};
+ghost use Rattle.octets.specs.Answers.{RunAnswer, long_run};
 
-use crate::answers::{Fault, Piece, ReadRun};
+use crate::answers::Piece;
+use crate::faults::{Cause, Fault};
 use crate::fewest::fewest_unsigned;
 use crate::numbers::{is_fewest, put_number, read_number};
 use crate::units::Octets;
 use crate::words::{octet, put_octet};
 
-fn found(start: usize, n: u64) -> ReadRun
-    ensures { result ≡ ReadRun.Got (piece start n) }
-{
-    ReadRun::Got(Piece {
-        start,
-        length: Octets(n),
-    })
-}
-
-fn refused(number: u64, place: usize) -> ReadRun
-    ensures { result ≡ ReadRun.Refused (fault number place) }
-{
-    ReadRun::Refused(Fault { number, place })
-}
-
 // The n octets from `start` on; 5 where fewer are left.
-pub fn run_at(msg: &[u8], start: usize, n: u64, place: usize) -> ReadRun
+pub fn run_at(msg: &[u8], start: usize, n: u64, place: usize) -> Result<Piece, Fault>
     requires { start ≤ length msg.now }
     ensures { RunAnswer msg.now (run place n (drop start msg.now)) start result }
 {
     let left = (msg.len() - start) as u64;
     if left < n {
-        return refused(5, place);
+        return Err(Cause::Short.at(place));
     }
-    found(start, n)
+    Ok(Piece {
+        start,
+        length: Octets(n),
+    })
 }
 
 // A determinant in the long form, from its subsequent octets on: there are k of them (8.6.5).
-fn long_run(msg: &[u8], start: usize, k: usize, place: usize) -> ReadRun
+fn long_run(msg: &[u8], start: usize, k: usize, place: usize) -> Result<Piece, Fault>
     requires { (start ≤ length msg.now) × (k ≤ 127) }
     ensures { RunAnswer msg.now (long_run place k (drop start msg.now)) start result }
 {
     // at least one subsequent octet (8.6.5)
     if k == 0 {
-        return refused(6, place);
+        return Err(Cause::NotCanonical.at(place));
     }
     if msg.len() - start < k {
-        return refused(5, place);
+        return Err(Cause::Short.at(place));
     }
     // the smallest number of octets (31.2)
     if !is_fewest(msg, start, k) {
-        return refused(6, place);
+        return Err(Cause::NotCanonical.at(place));
     }
     // 2 ^ 64 octets and more are not there
     let huge = 8 < k;
     if huge {
-        return refused(5, place);
+        return Err(Cause::Short.at(place));
     }
     let n = read_number(msg, start, k);
     // below 128 the short form is due (31.2)
     let low = n < 128;
     if low {
-        return refused(6, place);
+        return Err(Cause::NotCanonical.at(place));
     }
     run_at(msg, start + k, n, place)
 }
 
 // A length determinant and the octets that it counts.
-pub fn read_run(msg: &[u8], at: usize, place: usize) -> ReadRun
+pub fn read_run(msg: &[u8], at: usize, place: usize) -> Result<Piece, Fault>
     ensures { RunAnswer msg.now (read_run place (drop at msg.now)) at result }
 {
     if msg.len() <= at {
-        return refused(5, place);
+        return Err(Cause::Short.at(place));
     }
     let x = octet(msg, at);
     if x < 128 {

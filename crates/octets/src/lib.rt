@@ -6,6 +6,7 @@
 
 pub mod answers;
 pub mod enumerated;
+pub mod faults;
 pub mod fewest;
 pub mod lengths;
 pub mod nodes;

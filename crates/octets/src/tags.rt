@@ -3,26 +3,11 @@
 ghost use Rattle.std.specs.Prelude.{◌≡◌, ◌+◌, ◌*◌, ◌^◌, ◌<◌, ◌≤◌, length, drop};
 ghost use Rattle.std.proofs.lemmas.List.Edits.{sets};
 ghost use Rattle.x696.specs.Tag.{tag, tag_octets, read_tag};
-ghost use Rattle.octets.specs.Answers.{TagAnswer, tag_read, fault, long_tag, capped};
+ghost use Rattle.octets.specs.Answers.{TagAnswer, long_tag, capped};
 
-use crate::answers::{Fault, ReadTag, Tag};
+use crate::answers::Tag;
+use crate::faults::{Cause, Fault};
 use crate::words::{octet, put_octet};
-
-fn found(class: u64, number: u64, next: usize) -> ReadTag
-    ensures { result ≡ ReadTag.Got (tag_read class number next) }
-{
-    ReadTag::Got(Tag {
-        class,
-        number,
-        next,
-    })
-}
-
-fn refused(number: u64, place: usize) -> ReadTag
-    ensures { result ≡ ReadTag.Refused (fault number place) }
-{
-    ReadTag::Refused(Fault { number, place })
-}
 
 // A number below 2,097,152 with one more group of seven bits, as far as 2,097,152.
 fn with_group(n: u64, group: u64) -> u64
@@ -34,7 +19,7 @@ fn with_group(n: u64, group: u64) -> u64
 }
 
 // The groups of a tag number of 63 and above (8.7.2.3), read to the last octet, then judged.
-fn long_tag(msg: &[u8], start: usize, class: u64, place: usize) -> ReadTag
+fn long_tag(msg: &[u8], start: usize, class: u64, place: usize) -> Result<Tag, Fault>
     requires { start ≤ length msg.now }
     ensures { TagAnswer msg.now (long_tag class place (drop start msg.now)) start result }
 {
@@ -48,26 +33,34 @@ fn long_tag(msg: &[u8], start: usize, class: u64, place: usize) -> ReadTag
             // below 63 the one octet is due (8.7.2.2); the first group is not 0 (8.7.2.3 c)
             let low = n < 63;
             if low {
-                return refused(6, place);
+                return Err(Cause::NotCanonical.at(place));
             }
             if octet(msg, start) == 128 {
-                return refused(6, place);
+                return Err(Cause::NotCanonical.at(place));
             }
-            return found(class, n, i);
+            return Ok(Tag {
+                class,
+                number: n,
+                next: i,
+            });
         }
     }
-    refused(5, place)
+    Err(Cause::Short.at(place))
 }
 
-pub fn read_tag(msg: &[u8], at: usize, place: usize) -> ReadTag
+pub fn read_tag(msg: &[u8], at: usize, place: usize) -> Result<Tag, Fault>
     ensures { TagAnswer msg.now (read_tag place (drop at msg.now)) at result }
 {
     if msg.len() <= at {
-        return refused(5, place);
+        return Err(Cause::Short.at(place));
     }
     let x = octet(msg, at);
     if x % 64 < 63 {
-        return found(x / 64, x % 64, at + 1);
+        return Ok(Tag {
+            class: x / 64,
+            number: x % 64,
+            next: at + 1,
+        });
     }
     long_tag(msg, at + 1, x / 64, place)
 }

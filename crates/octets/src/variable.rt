@@ -2,96 +2,79 @@
 ghost use Rattle.std.specs.Prelude.{◌≡◌, ◌+◌, ◌^◌, ◌<◌, ◌≤◌, length, take, drop};
 ghost use Rattle.std.proofs.lemmas.List.Edits.{sets};
 ghost use Rattle.x696.specs.Variable.{variable_unsigned, read_unsigned, variable_signed, read_signed};
-ghost use Rattle.octets.specs.Answers.{NumberAnswer, QuantityAnswer, number, fault, unsigned_in, signed_in};
+ghost use Rattle.octets.specs.Answers.{NumberAnswer, QuantityAnswer, unsigned_in, signed_in};
 
-use crate::answers::{Fault, Number, Quantity, ReadNumber, ReadQuantity, ReadRun};
+use crate::answers::{Number, Quantity};
+use crate::faults::{Cause, Fault};
 use crate::fewest::{fewest_signed, fewest_unsigned};
 use crate::lengths::read_run;
 use crate::numbers::{is_fewest, is_fewest_signed, put_number, read_number, sign_extend};
 use crate::units::Occurrences;
 use crate::words::put_octet;
 
-pub fn found(value: u64, next: usize) -> ReadNumber
-    ensures { result ≡ ReadNumber.Got (number value next) }
-{
-    ReadNumber::Got(Number { value, next })
-}
-
-pub fn refused(number: u64, place: usize) -> ReadNumber
-    ensures { result ≡ ReadNumber.Refused (fault number place) }
-{
-    ReadNumber::Refused(Fault { number, place })
-}
-
 // The unsigned number in a run of k octets: 6, then 8.
-fn unsigned_in(msg: &[u8], start: usize, k: usize, place: usize) -> ReadNumber
+fn unsigned_in(msg: &[u8], start: usize, k: usize, place: usize) -> Result<Number, Fault>
     requires { start + k ≤ length msg.now }
     ensures { NumberAnswer msg.now (unsigned_in place (take k (drop start msg.now)) (drop (start + k) msg.now)) start result }
 {
     // the smallest number of octets (31.4, 31.7)
     if !is_fewest(msg, start, k) {
-        return refused(6, place);
+        return Err(Cause::NotCanonical.at(place));
     }
     // house limit: 64 bits
     if 8 < k {
-        return refused(8, place);
+        return Err(Cause::Wide.at(place));
     }
-    found(read_number(msg, start, k), start + k)
+    Ok(Number {
+        value: read_number(msg, start, k),
+        next: start + k,
+    })
 }
 
 // The signed number in a run of k octets: 6, then 8.
-pub fn signed_in(msg: &[u8], start: usize, k: usize, place: usize) -> ReadNumber
+pub fn signed_in(msg: &[u8], start: usize, k: usize, place: usize) -> Result<Number, Fault>
     requires { start + k ≤ length msg.now }
     ensures { NumberAnswer msg.now (signed_in place (take k (drop start msg.now)) (drop (start + k) msg.now)) start result }
 {
     // the smallest number of octets (31.4, 31.5)
     if !is_fewest_signed(msg, start, k) {
-        return refused(6, place);
+        return Err(Cause::NotCanonical.at(place));
     }
     // house limit: 64 bits
     if 8 < k {
-        return refused(8, place);
+        return Err(Cause::Wide.at(place));
     }
-    found(sign_extend(k, read_number(msg, start, k)), start + k)
+    Ok(Number {
+        value: sign_extend(k, read_number(msg, start, k)),
+        next: start + k,
+    })
 }
 
 // A variable-size unsigned number.
-pub fn read_unsigned(msg: &[u8], at: usize, place: usize) -> ReadNumber
+pub fn read_unsigned(msg: &[u8], at: usize, place: usize) -> Result<Number, Fault>
     ensures { NumberAnswer msg.now (read_unsigned place (drop at msg.now)) at result }
 {
-    match read_run(msg, at, place) {
-        ReadRun::Refused(f) => ReadNumber::Refused(f),
-        ReadRun::Got(p) => {
-            let length = p.length;
-            unsigned_in(msg, p.start, length.0 as usize, place)
-        }
-    }
+    let run = read_run(msg, at, place)?;
+    unsigned_in(msg, run.start, run.length.0 as usize, place)
 }
 
 // A variable-size signed number.
-pub fn read_signed(msg: &[u8], at: usize, place: usize) -> ReadNumber
+pub fn read_signed(msg: &[u8], at: usize, place: usize) -> Result<Number, Fault>
     ensures { NumberAnswer msg.now (read_signed place (drop at msg.now)) at result }
 {
-    match read_run(msg, at, place) {
-        ReadRun::Refused(f) => ReadNumber::Refused(f),
-        ReadRun::Got(p) => {
-            let length = p.length;
-            signed_in(msg, p.start, length.0 as usize, place)
-        }
-    }
+    let run = read_run(msg, at, place)?;
+    signed_in(msg, run.start, run.length.0 as usize, place)
 }
 
 // The quantity of a SEQUENCE OF (17.2).
-pub fn read_quantity(msg: &[u8], at: usize, place: usize) -> ReadQuantity
+pub fn read_quantity(msg: &[u8], at: usize, place: usize) -> Result<Quantity, Fault>
     ensures { QuantityAnswer msg.now (read_unsigned place (drop at msg.now)) at result }
 {
-    match read_unsigned(msg, at, place) {
-        ReadNumber::Refused(f) => ReadQuantity::Refused(f),
-        ReadNumber::Got(n) => ReadQuantity::Got(Quantity {
-            many: Occurrences(n.value),
-            next: n.next,
-        }),
-    }
+    let n = read_unsigned(msg, at, place)?;
+    Ok(Quantity {
+        many: Occurrences(n.value),
+        next: n.next,
+    })
 }
 
 // Stores a variable-size unsigned number; a determinant of 1 to 8 is one octet.

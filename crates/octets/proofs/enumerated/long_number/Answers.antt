@@ -7,14 +7,14 @@ use Rattle.octets.proofs.enumerated.long_number.Goals as goal
 use Rattle.octets.proofs.enumerated.long_number.Goals.{then-k-eq1+else-octet-lt128, else-k-eq1}
 
 pub returns-then-k-eq0 : goal.returns-then-k-eq0
-returns-then-k-eq0 c = number_refused (number_none _ _ _ c.if-k-eq0.true) c.refused.ensures
+returns-then-k-eq0 c = number_refused (number_none _ _ _ c.if-k-eq0.true) c.at.ensures
 
 pub returns-then-msg-start : goal.returns-then-msg-start
 returns-then-msg-start c =
     number_refused
     (number_lacks _ _ _ _ c.requires.0 c.if-k-eq0.false
     c.if-msg-start.true)
-    c.refused-then-msg-start.ensures
+    c.at-then-msg-start.ensures
 
 pub returns-then-octet-lt128 : goal.returns-then-octet-lt128
 returns-then-octet-lt128 c =
@@ -22,7 +22,7 @@ returns-then-octet-lt128 c =
     (number_low _ _ _ _ c.requires.0
     c.if-k-eq0.false c.if-msg-start.false _
     c.if-k-eq1.true c.octet.ensures.0 c.if-octet-lt128.true)
-    c.refused-then-octet-lt128.ensures
+    c.at-then-octet-lt128.ensures
 
 pub returns : goal.returns
 returns c =

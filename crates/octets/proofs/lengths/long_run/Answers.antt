@@ -6,14 +6,14 @@ use Rattle.octets.proofs.CountedRuns.{long_goes, long_huge, long_lacks, long_low
 use Rattle.octets.proofs.lengths.long_run.Goals as goal
 
 pub returns-then-k-eq0 : goal.returns-then-k-eq0
-returns-then-k-eq0 c = run_refused (long_none _ _ _ c.if-k-eq0.true) c.refused.ensures
+returns-then-k-eq0 c = run_refused (long_none _ _ _ c.if-k-eq0.true) c.at.ensures
 
 pub returns-then-msg-start : goal.returns-then-msg-start
 returns-then-msg-start c =
     run_refused
     (long_lacks _ _ _ _ c.requires.0 c.if-k-eq0.false
     c.if-msg-start.true)
-    c.refused-then-msg-start.ensures
+    c.at-then-msg-start.ensures
 
 pub returns-then-not-is_fewest : goal.returns-then-not-is_fewest
 returns-then-not-is_fewest c =
@@ -21,7 +21,7 @@ returns-then-not-is_fewest c =
     (long_wide _ _ _ _ c.requires.0
     c.if-k-eq0.false c.if-msg-start.false _
     c.is_fewest.ensures c.if-not-is_fewest.true)
-    c.refused-then-not-is_fewest.ensures
+    c.at-then-not-is_fewest.ensures
 
 pub returns-then-huge : goal.returns-then-huge
 returns-then-huge c =
@@ -30,7 +30,7 @@ returns-then-huge c =
     c.if-k-eq0.false c.if-msg-start.false _
     c.is_fewest.ensures c.if-not-is_fewest.false
     (omega arith) c.if-huge.true)
-    c.refused-then-huge.ensures
+    c.at-then-huge.ensures
 
 pub returns-then-low : goal.returns-then-low
 returns-then-low c =
@@ -39,7 +39,7 @@ returns-then-low c =
     c.if-k-eq0.false
     c.if-msg-start.false _ c.read_number-n.ensures.0
     c.if-low.true)
-    c.refused-then-low.ensures
+    c.at-then-low.ensures
 
 pub returns : goal.returns
 returns c =

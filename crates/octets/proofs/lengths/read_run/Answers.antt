@@ -6,7 +6,7 @@ use Rattle.octets.proofs.CountedRuns.{read_long, read_past, read_short}
 use Rattle.octets.proofs.lengths.read_run.Goals as goal
 
 pub returns-then-msg-at : goal.returns-then-msg-at
-returns-then-msg-at c = run_refused (read_past _ _ _ c.if-msg-at.true) c.refused.ensures
+returns-then-msg-at c = run_refused (read_past _ _ _ c.if-msg-at.true) c.at.ensures
 
 pub returns-then-x-lt128 : goal.returns-then-x-lt128
 returns-then-x-lt128 c =

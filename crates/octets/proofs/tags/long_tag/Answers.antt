@@ -1,6 +1,7 @@
 -- `long_tag` meets its contract: one law for each `return`. Invariant: the octets from `start` to `i` are groups, each
 -- with another one after it, and `n` is their number, capped (`Grouped`). Measure: the octets that are left.
 -- Assumes nothing.
+use mathlib.Core.Path.{refl}
 use native.Mathlib.Omega.{arith}
 use Rattle.octets.proofs.Groups.{grouped_start, grouped_small, grouped_more}
 use Rattle.octets.proofs.Tagging.{long_none, long_low, long_lead, long_found}
@@ -19,21 +20,21 @@ pub returns-then-low : goal.returns-then-low
 returns-then-low c =
     long_low _ _ _ _ c.loop-i.invariant c.loop-i-test.true
     c.octet-x.ensures.0 c.octet-x.ensures.1 c.with_group-n.ensures.0
-    c.if-x-lt128.true c.if-low.true c.refused.ensures
+    c.if-x-lt128.true c.if-low.true c.at.ensures
 
 pub returns-then-octet-eq128 : goal.returns-then-octet-eq128
 returns-then-octet-eq128 c =
     long_lead _ _ _ _ c.loop-i.invariant c.loop-i-test.true
     c.octet-x.ensures.0 c.octet-x.ensures.1 c.with_group-n.ensures.0
     c.if-x-lt128.true c.octet.ensures.0 c.if-low.false
-    c.if-octet-eq128.true c.refused-then-octet-eq128.ensures
+    c.if-octet-eq128.true c.at-then-octet-eq128.ensures
 
 pub returns-then-x-lt128 : goal.returns-then-x-lt128
 returns-then-x-lt128 c =
     long_found _ _ _ _ c.loop-i.invariant c.loop-i-test.true
     c.octet-x.ensures.0 c.octet-x.ensures.1 c.with_group-n.ensures.0
     c.if-x-lt128.true c.octet.ensures.0 c.if-low.false
-    c.if-octet-eq128.false c.found.ensures
+    c.if-octet-eq128.false refl
 
 pub loop-i-smaller : goal.loop-i-smaller
 loop-i-smaller c = omega arith
@@ -45,4 +46,4 @@ loop-i-preserved c =
     c.if-x-lt128.false
 
 pub returns : goal.returns
-returns c = long_none _ _ _ _ c.loop-i.invariant c.loop-i-test.false c.refused-2.ensures
+returns c = long_none _ _ _ _ c.loop-i.invariant c.loop-i-test.false c.at-2.ensures

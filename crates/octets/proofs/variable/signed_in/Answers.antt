@@ -1,5 +1,6 @@
 -- The answer of `signed_in` is the outcome of `signed_in`.
 -- Assumes nothing.
+use mathlib.Core.Path.{refl}
 use native.Mathlib.Omega.{arith}
 use Rattle.octets.proofs.Answered.{number_found, number_refused}
 use Rattle.octets.proofs.Determined.{signed_good, signed_long, signed_one, signed_wide}
@@ -10,7 +11,7 @@ returns-then-not-is_fewest_signed c =
     number_refused
     (signed_wide _ _ _ _ c.requires _ c.is_fewest_signed.ensures
     c.if-not-is_fewest_signed.true)
-    c.refused.ensures
+    c.at.ensures
 
 pub returns-then-k-gt8 : goal.returns-then-k-gt8
 returns-then-k-gt8 c =
@@ -18,7 +19,7 @@ returns-then-k-gt8 c =
     (signed_long _ _ _ _ c.requires _
     c.is_fewest_signed.ensures c.if-not-is_fewest_signed.false
     c.if-k-gt8.true)
-    c.refused-then-k-gt8.ensures
+    c.at-then-k-gt8.ensures
 
 pub sign_extend-requires : goal.sign_extend-requires
 sign_extend-requires c = (
@@ -35,4 +36,4 @@ returns c =
     c.is_fewest_signed.ensures
     c.if-not-is_fewest_signed.false _ _ c.if-k-gt8.false
     c.read_number.ensures.0 c.sign_extend.ensures)
-    c.requires (omega arith) c.found.ensures
+    c.requires (omega arith) refl

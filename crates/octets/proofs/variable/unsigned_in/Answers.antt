@@ -1,5 +1,6 @@
 -- The answer of `unsigned_in` is the outcome of `unsigned_in`.
 -- Assumes nothing.
+use mathlib.Core.Path.{refl}
 use native.Mathlib.Omega.{arith}
 use Rattle.octets.proofs.Answered.{number_found, number_refused}
 use Rattle.octets.proofs.Determined.{unsigned_good, unsigned_long, unsigned_wide}
@@ -10,7 +11,7 @@ returns-then-not-is_fewest c =
     number_refused
     (unsigned_wide _ _ _ _ c.requires _ c.is_fewest.ensures
     c.if-not-is_fewest.true)
-    c.refused.ensures
+    c.at.ensures
 
 pub returns-then-k-gt8 : goal.returns-then-k-gt8
 returns-then-k-gt8 c =
@@ -18,7 +19,7 @@ returns-then-k-gt8 c =
     (unsigned_long _ _ _ _ c.requires _
     c.is_fewest.ensures c.if-not-is_fewest.false
     c.if-k-gt8.true)
-    c.refused-then-k-gt8.ensures
+    c.at-then-k-gt8.ensures
 
 pub returns : goal.returns
 returns c =
@@ -26,4 +27,4 @@ returns c =
     (unsigned_good _ _ _ _ c.requires _
     c.is_fewest.ensures _ c.if-not-is_fewest.false
     c.if-k-gt8.false c.read_number.ensures.0)
-    c.requires (omega arith) c.found.ensures
+    c.requires (omega arith) refl
