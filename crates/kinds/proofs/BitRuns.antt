@@ -18,15 +18,14 @@ use Rattle.x696.specs.String.{fixed_size, size_allowed, read_fixed_bits, bits_in
 use Rattle.x696.specs.Value.{node, no_values}
 use Rattle.x696.specs.Leaf.{bit_string, read_leaf}
 use Rattle.octets.specs.Answers.{RunAnswer}
-use Rattle.octets.specs.declared.answers.Fault.{Fault}
+use Rattle.octets.specs.declared.faults.Fault.{Fault}
 use Rattle.octets.specs.declared.answers.Piece.{Piece}
-use Rattle.octets.specs.declared.answers.ReadRun.{ReadRun}
-use Rattle.octets.specs.declared.answers.ReadRun.TheVariants.{Got as GotRun, Refused as NoRun}
 use Rattle.octets.proofs.CountedRuns.{length_run, run_lacks, run_there}
 use Rattle.kinds.specs.Run.{cursor, Ran, leaf_at, in_message, fixed_bits_at, bits_run_at}
-use Rattle.kinds.specs.declared.cursor.Read.{Read}
-use Rattle.kinds.specs.declared.cursor.Read.TheVariants.{Got}
 use Rattle.kinds.proofs.Ran.{leaf_is, ran_leaf}
+use Rattle.std.proofs.Common.{Result, Ok, Err}
+use Rattle.octets.specs.Cause.{code_of}
+use Rattle.kinds.specs.declared.cursor.Cursor.{Cursor}
 
 -- ---- a fixed size s: n octets, u bits of them unused
 module _ (s : ℕ) (msg : List ℕ) (at count : ℕ) (h : at ≤ length msg) {n : ℕ} (en : n ≡ bit_octets s) where
@@ -43,8 +42,8 @@ module _ (s : ℕ) (msg : List ℕ) (at count : ℕ) (h : at ≤ length msg) {n 
     unfolding fixed_bits_at read_fixed_bits next must
     fixed_unclear t = rw (run_there msg at (bit_octets s) at h (omega arith), ← clear_is, t)
 
-    pub fixed_goes : {used : ℕ} {ns cs ns' cs' : List ℕ} {r : Read} → v ≡ true → ns' ≡ sets ns (count * 2) (8 ∷ s ∷ [])
-        → cs' ≡ sets cs used (take n (drop at msg)) → r ≡ Got (cursor (at + n) (count + 1) (used + n) s)
+    pub fixed_goes : {used : ℕ} {ns cs ns' cs' : List ℕ} {r : Result Cursor Fault} → v ≡ true → ns' ≡ sets ns (count * 2) (8 ∷ s ∷ [])
+        → cs' ≡ sets cs used (take n (drop at msg)) → r ≡ Ok (cursor (at + n) (count + 1) (used + n) s)
         → Ran msg (fixed_bits_at s msg at count) at count used ns cs ns' cs' r
     unfolding fixed_bits_at read_fixed_bits next must
     fixed_goes {used} {ns} {cs} t stored copied q =
@@ -100,9 +99,9 @@ module _ (f a b : ℕ) (msg : List ℕ) (at start n count : ℕ) where
           unfolding next must
           bits_unsized q = bits_are ∙ rw (lt-ltb u 8 (omega arith), le-leb u ((n - 1) * 8) g, ← ev, t, ← ew, q)
 
-          pub bits_go : {used : ℕ} {ns cs ns' cs' : List ℕ} {r : Read} → at ≤ start → w ≡ true
+          pub bits_go : {used : ℕ} {ns cs ns' cs' : List ℕ} {r : Result Cursor Fault} → at ≤ start → w ≡ true
               → ns' ≡ sets ns (count * 2) (8 ∷ ((n - 1) * 8 - u) ∷ []) → cs' ≡ sets cs used Os
-              → r ≡ Got (cursor (start + n) (count + 1) (used + (n - 1)) ((n - 1) * 8 - u))
+              → r ≡ Ok (cursor (start + n) (count + 1) (used + (n - 1)) ((n - 1) * 8 - u))
               → Ran msg (bits_run_at f a b msg at start n count) at count used ns cs ns' cs' r
           unfolding next must
           bits_go {used} {ns} {cs} m q stored copied e =
@@ -116,12 +115,12 @@ module _ (f a b : ℕ) (msg : List ℕ) (at count : ℕ) (h : at ≤ length msg)
   unfolding read_leaf read_bit_string choose fixed_bits_at
   bits_fixed q = leaf_is (bit_string f a b) msg at count h ∙ rw (← et, q)
 
-  module _ (q : t ≡ false) {x : ReadRun} (w : RunAnswer msg (read_run at (drop at msg)) at x) where
-    pub bits_stop : (y : Fault) → x ≡ NoRun y → leaf_at (bit_string f a b) msg at count ≡ refused y.number y.place
+  module _ (q : t ≡ false) {x : Result Piece Fault} (w : RunAnswer msg (read_run at (drop at msg)) at x) where
+    pub bits_stop : (y : Fault) → x ≡ Err y → leaf_at (bit_string f a b) msg at count ≡ refused (code_of y.cause) y.place
     unfolding read_leaf read_bit_string choose next
     bits_stop y e = leaf_is (bit_string f a b) msg at count h ∙ rw (← et, q, w.stopped y e)
 
-    pub bits_counted : (y : Piece) → x ≡ GotRun y
+    pub bits_counted : (y : Piece) → x ≡ Ok y
         → leaf_at (bit_string f a b) msg at count ≡ bits_run_at f a b msg at y.start y.length.0 count
     unfolding read_leaf read_bit_string choose next bits_run_at
     bits_counted y e = leaf_is (bit_string f a b) msg at count h ∙ rw (← et, q, (w.went y e).reads)

@@ -16,8 +16,10 @@ use Rattle.x696.proofs.TableLaws.{type_of_row}
 use Rattle.x696.proofs.TableRows.{kind_known, enumerated_row}
 use Rattle.table.specs.Orders.{Ascends}
 use Rattle.kinds.specs.Run.{ScalarAnswer, Ran, inside_at, leaf_at}
-use Rattle.kinds.specs.declared.cursor.Read.{Read}
-use Rattle.octets.specs.declared.answers.ReadNumber.{ReadNumber}
+use Rattle.std.proofs.Common.{Result}
+use Rattle.octets.specs.declared.faults.Fault.{Fault}
+use Rattle.octets.specs.declared.answers.Number.{Number}
+use Rattle.kinds.specs.declared.cursor.Cursor.{Cursor}
 
 six : (k : ℕ) → 0 < k → k < 7 → (k ≡ 1 → ⊥) → (k ≡ 2 → ⊥) → (k ≡ 3 → ⊥) → (k ≡ 4 → ⊥) → (k ≡ 5 → ⊥) → k ≡ 6
 six k h g one two three four five = omega arith
@@ -27,12 +29,12 @@ nine k h g seven eight = omega arith
 
 module _ (rows items : List ℕ) (row : ℕ) where
   -- the answer for a row's type
-  pub ran_row : {l : Leaf} {msg : List ℕ} {at count used : ℕ} {ns cs ns' cs' : List ℕ} {r : Read}
+  pub ran_row : {l : Leaf} {msg : List ℕ} {at count used : ℕ} {ns cs ns' cs' : List ℕ} {r : Result Cursor Fault}
       → type_of rows items row ≡ leaf l → Ran msg (leaf_at l msg at count) at count used ns cs ns' cs' r
       → Ran msg (inside_at (type_of rows items row) msg at count) at count used ns cs ns' cs' r
   ran_row e w = rw e w
 
-  pub scalar_row : {l : Leaf} {msg : List ℕ} {k at count : ℕ} {r : ReadNumber}
+  pub scalar_row : {l : Leaf} {msg : List ℕ} {k at count : ℕ} {r : Result Number Fault}
       → type_of rows items row ≡ leaf l → row_kind rows row ≡ k → ScalarAnswer msg (leaf_at l msg at count) k at count r
       → ScalarAnswer msg (inside_at (type_of rows items row) msg at count) (row_kind rows row) at count r
   scalar_row e f w = rw (e, f) w

@@ -11,7 +11,9 @@ use Rattle.x696.specs.Variable.{read_unsigned, read_signed}
 use Rattle.x696.specs.Integer.{has_lower, has_upper, rank, is_unsigned, unsigned_width, within, signed_width}
 use Rattle.x696.specs.Integer.{Form, fixed_unsigned, fixed_signed, any_unsigned, any_signed, integer_form, read_form}
 use Rattle.octets.specs.Answers.{NumberAnswer}
-use Rattle.octets.specs.declared.answers.ReadNumber.{ReadNumber}
+use Rattle.std.proofs.Common.{Result}
+use Rattle.octets.specs.declared.faults.Fault.{Fault}
+use Rattle.octets.specs.declared.answers.Number.{Number}
 
 -- ---- widths: 1, 2, 4 or 8 octets, by three tests
 pub record Ladder (w : ℕ) (x y z : Bool) : Type 0 where
@@ -79,7 +81,7 @@ module _ (f a b : ℕ) {u : Bool} (eu : u ≡ is_unsigned f a) where
       unfolding integer_form
       form_signed t e = rw (← eu, no, ← el, there, ← eh, t, e)
 
-module _ {msg : List ℕ} (p : ℕ) (s : List ℕ) {at : ℕ} {r : ReadNumber} where
+module _ {msg : List ℕ} (p : ℕ) (s : List ℕ) {at : ℕ} {r : Result Number Fault} where
   -- an answer by the form that was chosen
   pub chosen : {f g : Form} → f ≡ g → NumberAnswer msg (read_form g p s) at r → NumberAnswer msg (read_form f p s) at r
   chosen e w = rw e w

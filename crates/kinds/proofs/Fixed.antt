@@ -10,11 +10,13 @@ use Rattle.x696.specs.Digits.{from_digits}
 use Rattle.x696.specs.Fewest.{word_in, signed_word}
 use Rattle.x696.specs.Integer.{fixed_unsigned, fixed_signed, read_form}
 use Rattle.octets.specs.Answers.{fault, number, NumberAnswer}
-use Rattle.octets.specs.declared.answers.ReadNumber.{ReadNumber}
-use Rattle.octets.specs.declared.answers.ReadNumber.TheVariants.{Got as GotNumber, Refused as NoNumber}
 use Rattle.octets.proofs.CountedRuns.{length_run, run_lacks, run_there}
 use Rattle.octets.proofs.Runs.{run_cons}
 use Rattle.octets.proofs.Answered.{number_refused, number_found}
+use Rattle.std.proofs.Common.{Result, Ok, Err}
+use Rattle.octets.specs.declared.faults.Cause.TheVariants.{Short}
+use Rattle.octets.specs.declared.faults.Fault.{Fault}
+use Rattle.octets.specs.declared.answers.Number.{Number}
 
 -- ---- one octet, and two
 module _ (msg : List ℕ) (at k : ℕ) (h : at + k ≤ length msg) where
@@ -30,23 +32,23 @@ module _ (msg : List ℕ) (at k : ℕ) (h : at + k ≤ length msg) where
       rw (s, t) (omega arith)
 
 -- ---- k octets
-module _ (msg : List ℕ) (at k : ℕ) (h : at ≤ length msg) {r : ReadNumber} where
-  module _ (l : length msg - at < k) (e : r ≡ NoNumber (fault 5 at)) where
-    pub unsigned_lacks : NumberAnswer msg (read_form (fixed_unsigned k) at (drop at msg)) at r
+module _ (msg : List ℕ) (at k : ℕ) (h : at ≤ length msg) where
+  module _ (l : length msg - at < k) {stop : Fault} (e : stop ≡ fault Short at) where
+    pub unsigned_lacks : NumberAnswer msg (read_form (fixed_unsigned k) at (drop at msg)) at (Err stop)
     unfolding read_form next
     unsigned_lacks = number_refused (rw (run_lacks msg at k at h l)) e
 
-    pub signed_lacks : NumberAnswer msg (read_form (fixed_signed k) at (drop at msg)) at r
+    pub signed_lacks : NumberAnswer msg (read_form (fixed_signed k) at (drop at msg)) at (Err stop)
     unfolding read_form next
     signed_lacks = number_refused (rw (run_lacks msg at k at h l)) e
 
   module _ (l : k ≤ length msg - at) {n : ℕ} (en : n ≡ from_digits 8 (take k (drop at msg))) where
-    pub unsigned_there : r ≡ GotNumber (number n (at + k))
+    pub unsigned_there : {r : Result Number Fault} → r ≡ Ok (number n (at + k))
         → NumberAnswer msg (read_form (fixed_unsigned k) at (drop at msg)) at r
     unfolding read_form next
     unsigned_there e = number_found (rw (run_there msg at k at h l, en)) (omega arith) (omega arith) e
 
-    pub signed_there : {w : ℕ} → w ≡ word_in k n → r ≡ GotNumber (number w (at + k))
+    pub signed_there : {r : Result Number Fault} {w : ℕ} → w ≡ word_in k n → r ≡ Ok (number w (at + k))
         → NumberAnswer msg (read_form (fixed_signed k) at (drop at msg)) at r
     unfolding read_form next signed_word
     signed_there ew e =

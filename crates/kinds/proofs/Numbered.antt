@@ -17,18 +17,20 @@ use Rattle.x696.specs.Value.{Val, node, no_values}
 use Rattle.x696.specs.Leaf.{integer, enumerated, real, real_kind, read_leaf}
 use Rattle.x696.specs.Read.{Message}
 use Rattle.octets.specs.Answers.{fault, number, NumberAnswer}
-use Rattle.octets.specs.declared.answers.Fault.{Fault}
+use Rattle.octets.specs.declared.faults.Fault.{Fault}
 use Rattle.octets.specs.declared.answers.Number.{Number}
-use Rattle.octets.specs.declared.answers.ReadNumber.{ReadNumber}
-use Rattle.octets.specs.declared.answers.ReadNumber.TheVariants.{Got as GotNumber, Refused as NoNumber}
 use Rattle.kinds.specs.Run.{ScalarAnswer, leaf_at, in_message}
 use Rattle.kinds.proofs.Ran.{leaf_is}
 use Rattle.kinds.proofs.Scalars.{scalar_refused, scalar_found}
 use Rattle.kinds.proofs.Fixed.{unsigned_lacks, unsigned_there}
+use Rattle.std.proofs.Common.{Result, Ok, Err}
+use Rattle.octets.specs.declared.faults.Cause.TheVariants.{Short, NotCanonical, NotAllowed}
+use Rattle.octets.specs.declared.faults.Cause.{Cause}
+use Rattle.octets.specs.Cause.{code_of}
 
 -- the number that o gives, refused with j where it fails the test, else a node of kind k
-pub record Tested (q : Outcome Message Val) (o : Outcome (List ℕ) ℕ) (t : ℕ → Bool) (j k p count : ℕ) : Type 0 where
-  pub is : q ≡ in_message (next o λ w r. must (t w) j p (got (node k w [] no_values) r)) count
+pub record Tested (q : Outcome Message Val) (o : Outcome (List ℕ) ℕ) (t : ℕ → Bool) (j : Cause) (k p count : ℕ) : Type 0 where
+  pub is : q ≡ in_message (next o λ w r. must (t w) (code_of j) p (got (node k w [] no_values) r)) count
 
 -- ---- the kinds
 -- how many octets a REAL has, and its kind
@@ -54,17 +56,17 @@ number_in (got os r) g = refl
 module _ (msg : List ℕ) (at count : ℕ) (h : at ≤ length msg) where
   pub integer_tested : (f a b : ℕ)
       → Tested (leaf_at (integer f a b) msg at count) (read_form (integer_form f a b) at (drop at msg)) (allowed f a b)
-      7 2 at count
+      NotAllowed 2 at count
   unfolding read_leaf
   integer_tested f a b = record { is = leaf_is (integer f a b) msg at count h }
 
   pub enumerated_tested : (ns : List ℕ)
-      → Tested (leaf_at (enumerated ns) msg at count) (read_enumerated at (drop at msg)) (λ w. listed w ns) 7 3 at count
+      → Tested (leaf_at (enumerated ns) msg at count) (read_enumerated at (drop at msg)) (λ w. listed w ns) NotAllowed 3 at count
   unfolding read_leaf
   enumerated_tested ns = record { is = leaf_is (enumerated ns) msg at count h }
 
   real_tested : {w : Precision} {n k : ℕ} → RealForm w n k
-      → Tested (leaf_at (real w) msg at count) (read_form (fixed_unsigned n) at (drop at msg)) (real_allowed w) 6 k at count
+      → Tested (leaf_at (real w) msg at count) (read_form (fixed_unsigned n) at (drop at msg)) (real_allowed w) NotCanonical k at count
   unfolding read_leaf read_form
   real_tested {w} {n} {k} f = record {
     is =
@@ -76,19 +78,19 @@ module _ (msg : List ℕ) (at count : ℕ) (h : at ≤ length msg) where
 
 -- ---- the answers
 module _
-    {msg : List ℕ} {q : Outcome Message Val} {o : Outcome (List ℕ) ℕ} {t : ℕ → Bool} {j k at count : ℕ}
-    {r x : ReadNumber} (w : Tested q o t j k at count) (answer : NumberAnswer msg o at r)
+    {msg : List ℕ} {q : Outcome Message Val} {o : Outcome (List ℕ) ℕ} {t : ℕ → Bool} {j : Cause} {k at count : ℕ}
+    {r : Result Number Fault} (w : Tested q o t j k at count) (answer : NumberAnswer msg o at r)
   where
-    pub tested_stops : (f : Fault) → r ≡ NoNumber f → x ≡ NoNumber f → ScalarAnswer msg q k at count x
+    pub tested_stops : (f : Fault) → r ≡ Err f → ScalarAnswer msg q k at count (Err f)
     unfolding next
-    tested_stops f e = scalar_refused (w.is ∙ rw (answer.stopped f e))
+    tested_stops f e = scalar_refused (w.is ∙ rw (answer.stopped f e)) refl
 
-    module _ (n : Number) (e : r ≡ GotNumber n) {y : Bool} (ey : y ≡ t n.value) where
-      pub tested_refuses : y ≡ false → x ≡ NoNumber (fault j at) → ScalarAnswer msg q k at count x
+    module _ (n : Number) (e : r ≡ Ok n) {y : Bool} (ey : y ≡ t n.value) where
+      pub tested_refuses : {stop : Fault} → y ≡ false → stop ≡ fault j at → ScalarAnswer msg q k at count (Err stop)
       unfolding next must
       tested_refuses bad = scalar_refused (w.is ∙ rw ((answer.went n e).reads, ← ey, bad))
 
-      pub tested_goes : y ≡ true → x ≡ GotNumber (number n.value n.next) → ScalarAnswer msg q k at count x
+      pub tested_goes : {x : Result Number Fault} → y ≡ true → x ≡ Ok (number n.value n.next) → ScalarAnswer msg q k at count x
       unfolding next must
       tested_goes good =
           scalar_found (w.is ∙ rw ((answer.went n e).reads, ← ey, good))
@@ -115,23 +117,23 @@ module _ {w : Precision} {half top nan : ℕ} (f : RealBits w half top nan) (n :
 
 -- ---- REAL: its octets there or not
 module _
-    {w : Precision} {m k : ℕ} (f : RealForm w m k) (msg : List ℕ) {at count : ℕ} {x : ReadNumber} (h : at ≤ length msg)
+    {w : Precision} {m k : ℕ} (f : RealForm w m k) (msg : List ℕ) {at count : ℕ} (h : at ≤ length msg)
   where
-    pub real_lacks : length msg - at < m → x ≡ NoNumber (fault 5 at)
-        → ScalarAnswer msg (leaf_at (real w) msg at count) k at count x
-    real_lacks g = tested_stops (real_tested msg at count h f) (unsigned_lacks msg at m h g refl) (fault 5 at) refl
+    pub real_lacks : {stop : Fault} → length msg - at < m → stop ≡ fault Short at
+        → ScalarAnswer msg (leaf_at (real w) msg at count) k at count (Err stop)
+    real_lacks {stop} g e = tested_stops (real_tested msg at count h f) (unsigned_lacks msg at m h g e) stop refl
 
     module _
         (g : m ≤ length msg - at) {n : ℕ} (en : n ≡ from_digits 8 (take m (drop at msg))) {y : Bool}
         (ey : y ≡ real_allowed w n)
       where
-        pub real_refuses : y ≡ false → x ≡ NoNumber (fault 6 at)
-            → ScalarAnswer msg (leaf_at (real w) msg at count) k at count x
+        pub real_refuses : {stop : Fault} → y ≡ false → stop ≡ fault NotCanonical at
+            → ScalarAnswer msg (leaf_at (real w) msg at count) k at count (Err stop)
         real_refuses =
             tested_refuses (real_tested msg at count h f)
             (unsigned_there msg at m h g en refl) (number n (at + m)) refl ey
 
-        pub real_goes : y ≡ true → x ≡ GotNumber (number n (at + m))
+        pub real_goes : {x : Result Number Fault} → y ≡ true → x ≡ Ok (number n (at + m))
             → ScalarAnswer msg (leaf_at (real w) msg at count) k at count x
         real_goes =
             tested_goes (real_tested msg at count h f)

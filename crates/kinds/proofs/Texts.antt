@@ -13,15 +13,14 @@ use Rattle.x696.specs.String.{fixed_size, size_allowed, any_octets, visible, rea
 use Rattle.x696.specs.Value.{node, no_values}
 use Rattle.x696.specs.Leaf.{Leaf, octet_string, visible_string, read_leaf}
 use Rattle.octets.specs.Answers.{fault, RunAnswer}
-use Rattle.octets.specs.declared.answers.Fault.{Fault}
+use Rattle.octets.specs.declared.faults.Fault.{Fault}
 use Rattle.octets.specs.declared.answers.Piece.{Piece}
-use Rattle.octets.specs.declared.answers.ReadRun.{ReadRun}
-use Rattle.octets.specs.declared.answers.ReadRun.TheVariants.{Got as GotRun, Refused as NoRun}
 use Rattle.octets.proofs.CountedRuns.{length_run}
 use Rattle.kinds.specs.Run.{cursor, Ran, leaf_at, text_run, in_message}
-use Rattle.kinds.specs.declared.cursor.Read.{Read}
-use Rattle.kinds.specs.declared.cursor.Read.TheVariants.{Got, Refused}
 use Rattle.kinds.proofs.Ran.{leaf_is, ran_refused, ran_fault, ran_leaf}
+use Rattle.std.proofs.Common.{Result, Ok, Err}
+use Rattle.octets.specs.declared.faults.Cause.TheVariants.{NotAllowed}
+use Rattle.kinds.specs.declared.cursor.Cursor.{Cursor}
 
 -- ---- the contents
 module _ (f a b p : ℕ) (s : List ℕ) {t : Bool} (e : t ≡ fixed_size f a b) where
@@ -59,15 +58,15 @@ module _ {l : Leaf} {characters : List ℕ → Bool} {kind f a b : ℕ} (k : Tex
   unfolding read_text text_run
   text_is msg at count h = leaf_is l msg at count h ∙ rw (k.reads at (drop at msg))
 
-  module _ {msg : List ℕ} {at count used : ℕ} {ns cs ns' cs' : List ℕ} (h : at ≤ length msg) {x : ReadRun}
+  module _ {msg : List ℕ} {at count used : ℕ} {ns cs ns' cs' : List ℕ} (h : at ≤ length msg) {x : Result Piece Fault}
       (w : RunAnswer msg (text_run f a b at (drop at msg)) at x) where
-    pub text_stop : (y : Fault) → x ≡ NoRun y → Ran msg (leaf_at l msg at count) at count used ns cs ns' cs' (Refused y)
+    pub text_stop : (y : Fault) → x ≡ Err y → Ran msg (leaf_at l msg at count) at count used ns cs ns' cs' (Err y)
     unfolding next
     text_stop y e = ran_fault y (text_is msg at count h ∙ rw (w.stopped y e))
 
-    module _ (y : Piece) (e : x ≡ GotRun y) {v : Bool} (ev : v ≡ size_allowed f a b y.length.0) where
-      pub text_size : {r : Read} → v ≡ false → r ≡ Refused (fault 7 at)
-          → Ran msg (leaf_at l msg at count) at count used ns cs ns' cs' r
+    module _ (y : Piece) (e : x ≡ Ok y) {v : Bool} (ev : v ≡ size_allowed f a b y.length.0) where
+      pub text_size : {stop : Fault} → v ≡ false → stop ≡ fault NotAllowed at
+          → Ran msg (leaf_at l msg at count) at count used ns cs ns' cs' (Err stop)
       unfolding next must
       text_size t q =
           let g = w.went y e in
@@ -75,17 +74,17 @@ module _ {l : Leaf} {characters : List ℕ → Bool} {kind f a b : ℕ} (k : Tex
           ran_refused (text_is msg at count h ∙ rw (g.reads, len, ← ev, t)) q
 
       module _ (t : v ≡ true) {z : Bool} (ez : z ≡ characters (take y.length.0 (drop y.start msg))) where
-        pub text_characters : {r : Read} → z ≡ false → r ≡ Refused (fault 7 at)
-            → Ran msg (leaf_at l msg at count) at count used ns cs ns' cs' r
+        pub text_characters : {stop : Fault} → z ≡ false → stop ≡ fault NotAllowed at
+            → Ran msg (leaf_at l msg at count) at count used ns cs ns' cs' (Err stop)
         unfolding next must
         text_characters c q =
             let g = w.went y e in
             let len = length_run msg y.start y.length.0 g.inside in
             ran_refused (text_is msg at count h ∙ rw (g.reads, len, ← ev, t, ← ez, c)) q
 
-        pub text_goes : {r : Read} → z ≡ true → ns' ≡ sets ns (count * 2) (kind ∷ y.length.0 ∷ [])
+        pub text_goes : {r : Result Cursor Fault} → z ≡ true → ns' ≡ sets ns (count * 2) (kind ∷ y.length.0 ∷ [])
             → cs' ≡ sets cs used (take y.length.0 (drop y.start msg))
-            → r ≡ Got (cursor (y.start + y.length.0) (count + 1) (used + y.length.0) y.length.0)
+            → r ≡ Ok (cursor (y.start + y.length.0) (count + 1) (used + y.length.0) y.length.0)
             → Ran msg (leaf_at l msg at count) at count used ns cs ns' cs' r
         unfolding next must
         text_goes c stored copied q =

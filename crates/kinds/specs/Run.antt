@@ -11,13 +11,11 @@ use Rattle.x696.specs.Leaf.{Leaf}
 use Rattle.x696.specs.Types.{Ty, leaf}
 use Rattle.x696.specs.Read.{Message, message, read_inside}
 use Rattle.x696.specs.Operations.{node_limit}
-use Rattle.octets.specs.declared.answers.Fault.{Fault}
+use Rattle.octets.specs.declared.faults.Fault.{Fault}
 use Rattle.octets.specs.declared.answers.Number.{Number}
-use Rattle.octets.specs.declared.answers.ReadNumber.{ReadNumber}
-use Rattle.octets.specs.declared.answers.ReadNumber.TheVariants.{Got as GotNumber, Refused as NoNumber}
 use Rattle.kinds.specs.declared.cursor.Cursor.{Cursor}
-use Rattle.kinds.specs.declared.cursor.Read.{Read}
-use Rattle.kinds.specs.declared.cursor.Read.TheVariants.{Got, Refused}
+use Rattle.std.specs.Prelude.{Result, Ok, Err}
+use Rattle.octets.specs.Cause.{code_of}
 
 abbrev pub cursor : (at count used number : ℕ) → Cursor
 cursor p n u x = record { at = p; count = n; used = u; number = x }
@@ -39,9 +37,9 @@ pub record Gone (msg : List ℕ) (o : Outcome Message Val) (p n u : ℕ) (l b l'
   pub stored : l' ≡ sets l (n * node_width) (nodes what)
   pub copied : b' ≡ sets b u (contents what)
 
-pub record Ran (msg : List ℕ) (o : Outcome Message Val) (p n u : ℕ) (l b l' b' : List ℕ) (r : Read) : Type 0 where
-  pub went : (c : Cursor) → r ≡ Got c → Gone msg o p n u l b l' b' c
-  pub stopped : (f : Fault) → r ≡ Refused f → o ≡ refused f.number f.place
+pub record Ran (msg : List ℕ) (o : Outcome Message Val) (p n u : ℕ) (l b l' b' : List ℕ) (r : Result Cursor Fault) : Type 0 where
+  pub went : (c : Cursor) → r ≡ Ok c → Gone msg o p n u l b l' b' c
+  pub stopped : (f : Fault) → r ≡ Err f → o ≡ refused (code_of f.cause) f.place
 
 -- the same of a value that is a number and no more: its node, of kind k, is for the caller to store
 pub record ScalarFound (msg : List ℕ) (o : Outcome Message Val) (k p n : ℕ) (x : Number) : Type 0 where
@@ -49,9 +47,9 @@ pub record ScalarFound (msg : List ℕ) (o : Outcome Message Val) (k p n : ℕ) 
   pub inside : x.next ≤ length msg
   pub ahead : p ≤ x.next
 
-pub record ScalarAnswer (msg : List ℕ) (o : Outcome Message Val) (k p n : ℕ) (r : ReadNumber) : Type 0 where
-  pub went : (x : Number) → r ≡ GotNumber x → ScalarFound msg o k p n x
-  pub stopped : (f : Fault) → r ≡ NoNumber f → o ≡ refused f.number f.place
+pub record ScalarAnswer (msg : List ℕ) (o : Outcome Message Val) (k p n : ℕ) (r : Result Number Fault) : Type 0 where
+  pub went : (x : Number) → r ≡ Ok x → ScalarFound msg o k p n x
+  pub stopped : (f : Fault) → r ≡ Err f → o ≡ refused (code_of f.cause) f.place
 
 -- a value at octet `at`, its own node counted as the one after `count`
 unfoldable pub inside_at : Ty → (msg : List ℕ) → (at count : ℕ) → Outcome Message Val

@@ -3,8 +3,9 @@ ghost use Rattle.std.specs.Prelude.{◌+◌, ◌<◌, ◌≤◌, length};
 ghost use Rattle.x696.specs.Leaf.{bit_string};
 ghost use Rattle.kinds.specs.Run.{Ran, leaf_at, fixed_bits_at, bits_run_at};
 
-use crate::cursor::{Read, got, refuse};
-use octets::answers::ReadRun;
+use crate::cursor::Cursor;
+use octets::answers::Piece;
+use octets::faults::{Cause, Fault};
 use octets::lengths::read_run;
 use octets::nodes::put_node;
 use octets::presence::low_bits_clear;
@@ -21,22 +22,27 @@ fn fixed_bits(
     used: usize,
     nodes: &mut [u64],
     contents: &mut [u8],
-) -> Read
+) -> Result<Cursor, Fault>
     requires { (count < 4096) × (at ≤ length msg.now) × (used ≤ at) }
     ensures { Ran msg.now (fixed_bits_at size.0 msg.now at count) at count used nodes.old contents.old nodes.new contents.new result }
 {
     let filled = octets_of(size);
     let n = filled.0;
     if ((msg.len() - at) as u64) < n {
-        return refuse(5, at);
+        return Err(Cause::Short.at(at));
     }
     // unused bits are 0 (13.2.2)
     if !low_bits_clear(msg, at, n as usize, unused_of(size) as usize) {
-        return refuse(6, at);
+        return Err(Cause::NotCanonical.at(at));
     }
     put_node(nodes, count, 8, size.0);
     copy(msg, at, n as usize, contents, used);
-    got(at + n as usize, count + 1, used + n as usize, size.0)
+    Ok(Cursor {
+        at: at + n as usize,
+        count: count + 1,
+        used: used + n as usize,
+        number: size.0,
+    })
 }
 
 // The n octets from `start` on that a determinant counts: the unused-bits octet and the contents (13.3).
@@ -53,34 +59,39 @@ fn bits_in(
     used: usize,
     nodes: &mut [u64],
     contents: &mut [u8],
-) -> Read
+) -> Result<Cursor, Fault>
     requires { (count < 4096) × (at ≤ start) × (start + n ≤ length msg.now) × (used ≤ at) × (length msg.now ≤ 65535) }
     ensures { Ran msg.now (bits_run_at flags a b msg.now at start n count) at count used nodes.old contents.old nodes.new contents.new result }
 {
     // the unused-bits octet is there (13.3.1), 0 to 7 (13.3.2)
     if n == 0 {
-        return refuse(6, at);
+        return Err(Cause::NotCanonical.at(at));
     }
     let unused = octet(msg, start);
     if 7 < unused {
-        return refuse(6, at);
+        return Err(Cause::NotCanonical.at(at));
     }
     let k = n - 1;
     // it is 0 where there are no contents (13.3.4)
     if k as u64 * 8 < unused {
-        return refuse(6, at);
+        return Err(Cause::NotCanonical.at(at));
     }
     // unused bits are 0 (13.3.3)
     if !low_bits_clear(msg, start + 1, k, unused as usize) {
-        return refuse(6, at);
+        return Err(Cause::NotCanonical.at(at));
     }
     let size = k as u64 * 8 - unused;
     if !is_sized(flags, a, b, size) {
-        return refuse(7, at);
+        return Err(Cause::NotAllowed.at(at));
     }
     put_node(nodes, count, 8, size);
     copy(msg, start + 1, k, contents, used);
-    got(start + n, count + 1, used + k, size)
+    Ok(Cursor {
+        at: start + n,
+        count: count + 1,
+        used: used + k,
+        number: size,
+    })
 }
 
 pub fn read_bits(
@@ -93,31 +104,25 @@ pub fn read_bits(
     used: usize,
     nodes: &mut [u64],
     contents: &mut [u8],
-) -> Read
+) -> Result<Cursor, Fault>
     requires { (count < 4096) × (at ≤ length msg.now) × (used ≤ at) × (length msg.now ≤ 65535) }
     ensures { Ran msg.now (leaf_at (bit_string flags a b) msg.now at count) at count used nodes.old contents.old nodes.new contents.new result }
 {
     if is_fixed(flags, a, b) {
         return fixed_bits(Bits(a), msg, at, count, used, nodes, contents);
     }
-    match read_run(msg, at, at) {
-        ReadRun::Refused(f) => Read::Refused(f),
-        ReadRun::Got(p) => {
-            let start = p.start;
-            let length = p.length;
-            bits_in(
-                flags,
-                a,
-                b,
-                msg,
-                at,
-                start,
-                length.0 as usize,
-                count,
-                used,
-                nodes,
-                contents,
-            )
-        }
-    }
+    let run = read_run(msg, at, at)?;
+    bits_in(
+        flags,
+        a,
+        b,
+        msg,
+        at,
+        run.start,
+        run.length.0 as usize,
+        count,
+        used,
+        nodes,
+        contents,
+    )
 }

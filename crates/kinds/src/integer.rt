@@ -7,9 +7,10 @@ ghost use Rattle.octets.specs.Answers.{NumberAnswer};
 ghost use Rattle.kinds.specs.Run.{ScalarAnswer, leaf_at};
 
 use crate::widths::{signed_width, unsigned_width};
-use octets::answers::ReadNumber;
+use octets::answers::Number;
+use octets::faults::{Cause, Fault};
 use octets::numbers::{read_number, sign_extend};
-use octets::variable::{found, read_signed, read_unsigned, refused};
+use octets::variable::{read_signed, read_unsigned};
 use table::bounds::{has_lower, has_upper, is_allowed, is_unsigned};
 
 // The number that k octets hold: one or two without a loop.
@@ -27,28 +28,34 @@ fn number_at(msg: &[u8], at: usize, k: usize) -> u64
 }
 
 // A fixed-size number of k octets.
-fn fixed_unsigned(msg: &[u8], at: usize, k: usize) -> ReadNumber
+fn fixed_unsigned(msg: &[u8], at: usize, k: usize) -> Result<Number, Fault>
     requires { (at ≤ length msg.now) × (k ≤ 8) }
     ensures { NumberAnswer msg.now (read_form (fixed_unsigned k) at (drop at msg.now)) at result }
 {
     if msg.len() - at < k {
-        return refused(5, at);
+        return Err(Cause::Short.at(at));
     }
-    found(number_at(msg, at, k), at + k)
+    Ok(Number {
+        value: number_at(msg, at, k),
+        next: at + k,
+    })
 }
 
-fn fixed_signed(msg: &[u8], at: usize, k: usize) -> ReadNumber
+fn fixed_signed(msg: &[u8], at: usize, k: usize) -> Result<Number, Fault>
     requires { (at ≤ length msg.now) × (1 ≤ k) × (k ≤ 8) }
     ensures { NumberAnswer msg.now (read_form (fixed_signed k) at (drop at msg.now)) at result }
 {
     if msg.len() - at < k {
-        return refused(5, at);
+        return Err(Cause::Short.at(at));
     }
-    found(sign_extend(k, number_at(msg, at, k)), at + k)
+    Ok(Number {
+        value: sign_extend(k, number_at(msg, at, k)),
+        next: at + k,
+    })
 }
 
 // By the form that the bounds give (10.3, 10.4).
-fn read_form(flags: u64, a: u64, b: u64, msg: &[u8], at: usize) -> ReadNumber
+fn read_form(flags: u64, a: u64, b: u64, msg: &[u8], at: usize) -> Result<Number, Fault>
     requires { at ≤ length msg.now }
     ensures { NumberAnswer msg.now (read_form (integer_form flags a b) at (drop at msg.now)) at result }
 {
@@ -67,19 +74,13 @@ fn read_form(flags: u64, a: u64, b: u64, msg: &[u8], at: usize) -> ReadNumber
     fixed_signed(msg, at, signed_width(a, b))
 }
 
-pub fn read_integer(flags: u64, a: u64, b: u64, msg: &[u8], at: usize) -> ReadNumber
+pub fn read_integer(flags: u64, a: u64, b: u64, msg: &[u8], at: usize) -> Result<Number, Fault>
     requires { at ≤ length msg.now }
     ensures { (count : ℕ) → ScalarAnswer msg.now (leaf_at (integer flags a b) msg.now at count) 2 at count result }
 {
-    match read_form(flags, a, b, msg, at) {
-        ReadNumber::Refused(f) => ReadNumber::Refused(f),
-        ReadNumber::Got(n) => {
-            let w = n.value;
-            let next = n.next;
-            if !is_allowed(flags, a, b, w) {
-                return refused(7, at);
-            }
-            found(w, next)
-        }
+    let n = read_form(flags, a, b, msg, at)?;
+    if !is_allowed(flags, a, b, n.value) {
+        return Err(Cause::NotAllowed.at(at));
     }
+    Ok(n)
 }

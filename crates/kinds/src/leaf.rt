@@ -5,18 +5,24 @@ ghost use Rattle.x696.specs.TableFault.{row_sound};
 ghost use Rattle.kinds.specs.Run.{ScalarAnswer, Ran, inside_at};
 
 use crate::bits::read_bits;
-use crate::cursor::Read;
+use crate::cursor::Cursor;
 use crate::integer::read_integer;
 use crate::listed::read_listed;
 use crate::plain::read_boolean;
 use crate::real::{read_double, read_single};
 use crate::text::{read_octets, read_visible};
-use octets::answers::ReadNumber;
-use octets::variable::found;
+use octets::answers::Number;
+use octets::faults::{Cause, Fault};
 use table::words::{row_a, row_b, row_count, row_first, row_flags, row_kind};
 
 // Kinds 1 to 6: a number, and where the next octet stands. The caller stores the node.
-pub fn read_scalar(rows: &[u64], items: &[u64], row: usize, msg: &[u8], at: usize) -> ReadNumber
+pub fn read_scalar(
+    rows: &[u64],
+    items: &[u64],
+    row: usize,
+    msg: &[u8],
+    at: usize,
+) -> Result<Number, Fault>
     requires { (row < length rows.now / row_width) × (row_sound rows.now items.now row ≡ true) × (row_kind rows.now row < 7) × (at ≤ length msg.now) }
     ensures { (count : ℕ) → ScalarAnswer msg.now (inside_at (type_of rows.now items.now row) msg.now at count) (row_kind rows.now row) at count result }
 {
@@ -49,7 +55,7 @@ pub fn read_scalar(rows: &[u64], items: &[u64], row: usize, msg: &[u8], at: usiz
         return read_double(msg, at);
     }
     // NULL: no octets (15)
-    found(0, at)
+    Ok(Number { value: 0, next: at })
 }
 
 // Kinds 7 to 9: the node and the contents are stored.
@@ -63,7 +69,7 @@ pub fn read_string(
     used: usize,
     nodes: &mut [u64],
     contents: &mut [u8],
-) -> Read
+) -> Result<Cursor, Fault>
     requires { (row < length rows.now / row_width) × (6 < row_kind rows.now row) × (row_kind rows.now row < 10) × (count < 4096) × (at ≤ length msg.now) × (used ≤ at) × (length msg.now ≤ 65535) }
     ensures { Ran msg.now (inside_at (type_of rows.now items.now row) msg.now at count) at count used nodes.old contents.old nodes.new contents.new result }
 {

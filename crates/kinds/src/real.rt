@@ -4,9 +4,9 @@ ghost use Rattle.x696.specs.Real.{binary32, binary64, real_allowed};
 ghost use Rattle.x696.specs.Leaf.{real};
 ghost use Rattle.kinds.specs.Run.{ScalarAnswer, leaf_at};
 
-use octets::answers::ReadNumber;
+use octets::answers::Number;
+use octets::faults::{Cause, Fault};
 use octets::numbers::read_number;
-use octets::variable::{found, refused};
 
 // No NaN, or the one that is written.
 pub fn single_allowed(bits: u64) -> bool
@@ -29,30 +29,36 @@ pub fn double_allowed(bits: u64) -> bool
     }
 }
 
-pub fn read_single(msg: &[u8], at: usize) -> ReadNumber
+pub fn read_single(msg: &[u8], at: usize) -> Result<Number, Fault>
     requires { at ≤ length msg.now }
     ensures { (count : ℕ) → ScalarAnswer msg.now (leaf_at (real binary32) msg.now at count) 4 at count result }
 {
     if msg.len() - at < 4 {
-        return refused(5, at);
+        return Err(Cause::Short.at(at));
     }
     let bits = read_number(msg, at, 4);
     if !single_allowed(bits) {
-        return refused(6, at);
+        return Err(Cause::NotCanonical.at(at));
     }
-    found(bits, at + 4)
+    Ok(Number {
+        value: bits,
+        next: at + 4,
+    })
 }
 
-pub fn read_double(msg: &[u8], at: usize) -> ReadNumber
+pub fn read_double(msg: &[u8], at: usize) -> Result<Number, Fault>
     requires { at ≤ length msg.now }
     ensures { (count : ℕ) → ScalarAnswer msg.now (leaf_at (real binary64) msg.now at count) 5 at count result }
 {
     if msg.len() - at < 8 {
-        return refused(5, at);
+        return Err(Cause::Short.at(at));
     }
     let bits = read_number(msg, at, 8);
     if !double_allowed(bits) {
-        return refused(6, at);
+        return Err(Cause::NotCanonical.at(at));
     }
-    found(bits, at + 8)
+    Ok(Number {
+        value: bits,
+        next: at + 8,
+    })
 }

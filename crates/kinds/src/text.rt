@@ -4,8 +4,9 @@ ghost use Rattle.x696.specs.Leaf.{octet_string, visible_string};
 ghost use Rattle.octets.specs.Answers.{RunAnswer};
 ghost use Rattle.kinds.specs.Run.{Ran, leaf_at, text_run};
 
-use crate::cursor::{Read, got, refuse};
-use octets::answers::ReadRun;
+use crate::cursor::Cursor;
+use octets::answers::Piece;
+use octets::faults::{Cause, Fault};
 use octets::lengths::{read_run, run_at};
 use octets::nodes::put_node;
 use octets::strings::is_visible;
@@ -13,7 +14,7 @@ use octets::words::copy;
 use table::bounds::{is_fixed, is_sized};
 
 // The contents: alone where the size is fixed (14.1), else behind a length determinant (14.2).
-fn run_of(flags: u64, a: u64, b: u64, msg: &[u8], at: usize) -> ReadRun
+fn run_of(flags: u64, a: u64, b: u64, msg: &[u8], at: usize) -> Result<Piece, Fault>
     requires { at ≤ length msg.now }
     ensures { RunAnswer msg.now (text_run flags a b at (drop at msg.now)) at result }
 {
@@ -34,24 +35,23 @@ pub fn read_octets(
     used: usize,
     nodes: &mut [u64],
     contents: &mut [u8],
-) -> Read
+) -> Result<Cursor, Fault>
     requires { (count < 4096) × (at ≤ length msg.now) × (used ≤ at) }
     ensures { Ran msg.now (leaf_at (octet_string flags a b) msg.now at count) at count used nodes.old contents.old nodes.new contents.new result }
 {
-    match run_of(flags, a, b, msg, at) {
-        ReadRun::Refused(f) => Read::Refused(f),
-        ReadRun::Got(p) => {
-            let start = p.start;
-            let length = p.length;
-            let n = length.0;
-            if !is_sized(flags, a, b, n) {
-                return refuse(7, at);
-            }
-            put_node(nodes, count, 7, n);
-            copy(msg, start, n as usize, contents, used);
-            got(start + n as usize, count + 1, used + n as usize, n)
-        }
+    let run = run_of(flags, a, b, msg, at)?;
+    let n = run.length.0;
+    if !is_sized(flags, a, b, n) {
+        return Err(Cause::NotAllowed.at(at));
     }
+    put_node(nodes, count, 7, n);
+    copy(msg, run.start, n as usize, contents, used);
+    Ok(Cursor {
+        at: run.start + n as usize,
+        count: count + 1,
+        used: used + n as usize,
+        number: n,
+    })
 }
 
 pub fn read_visible(
@@ -64,25 +64,24 @@ pub fn read_visible(
     used: usize,
     nodes: &mut [u64],
     contents: &mut [u8],
-) -> Read
+) -> Result<Cursor, Fault>
     requires { (count < 4096) × (at ≤ length msg.now) × (used ≤ at) }
     ensures { Ran msg.now (leaf_at (visible_string flags a b) msg.now at count) at count used nodes.old contents.old nodes.new contents.new result }
 {
-    match run_of(flags, a, b, msg, at) {
-        ReadRun::Refused(f) => Read::Refused(f),
-        ReadRun::Got(p) => {
-            let start = p.start;
-            let length = p.length;
-            let n = length.0;
-            if !is_sized(flags, a, b, n) {
-                return refuse(7, at);
-            }
-            if !is_visible(msg, start, n as usize) {
-                return refuse(7, at);
-            }
-            put_node(nodes, count, 9, n);
-            copy(msg, start, n as usize, contents, used);
-            got(start + n as usize, count + 1, used + n as usize, n)
-        }
+    let run = run_of(flags, a, b, msg, at)?;
+    let n = run.length.0;
+    if !is_sized(flags, a, b, n) {
+        return Err(Cause::NotAllowed.at(at));
     }
+    if !is_visible(msg, run.start, n as usize) {
+        return Err(Cause::NotAllowed.at(at));
+    }
+    put_node(nodes, count, 9, n);
+    copy(msg, run.start, n as usize, contents, used);
+    Ok(Cursor {
+        at: run.start + n as usize,
+        count: count + 1,
+        used: used + n as usize,
+        number: n,
+    })
 }

@@ -8,7 +8,7 @@ use native.Mathlib.Omega.{arith}
 use lib.ListN.{length, take, drop}
 use Rattle.x696.specs.Outcome.{Outcome, refused, got, next}
 use Rattle.std.proofs.Common.{Result, Ok, Err}
-use Rattle.octets.specs.Cause.{number_of}
+use Rattle.octets.specs.Cause.{code_of}
 use Rattle.octets.specs.Answers.{fault, piece, RunAnswer, number, NumberAnswer, QuantityAnswer}
 use Rattle.octets.specs.declared.faults.Cause.{Cause}
 use Rattle.octets.specs.declared.faults.Fault.{Fault}
@@ -28,7 +28,7 @@ module _ {S T A B : Type 0} {o : Outcome S A} (k : A → S → Outcome T B) wher
 
 -- ---- runs
 module _ {msg : List ℕ} {o : Outcome (List ℕ) (List ℕ)} {at : ℕ} where
-  pub run_refused : {k : Cause} {p : ℕ} {f : Fault} → o ≡ refused (number_of k) p → f ≡ fault k p
+  pub run_refused : {k : Cause} {p : ℕ} {f : Fault} → o ≡ refused (code_of k) p → f ≡ fault k p
       → RunAnswer msg o at (Err f)
   run_refused e h =
       record { went = λ x g. let z : ◌≡◌ {A = ℕ} 0 1 = cc in absurd (omega arith); stopped = λ x g. cc }
@@ -54,13 +54,13 @@ run_from e h w =
 
 -- ---- numbers
 module _ {msg : List ℕ} {o : Outcome (List ℕ) ℕ} {at : ℕ} where
-  pub number_refused : {k : Cause} {p : ℕ} {f : Fault} → o ≡ refused (number_of k) p → f ≡ fault k p
+  pub number_refused : {k : Cause} {p : ℕ} {f : Fault} → o ≡ refused (code_of k) p → f ≡ fault k p
       → NumberAnswer msg o at (Err f)
   number_refused e h =
       record { went = λ x g. let z : ◌≡◌ {A = ℕ} 0 1 = cc in absurd (omega arith); stopped = λ x g. cc }
 
   -- a part's fault handed on
-  pub number_fault : (f : Fault) → o ≡ refused (number_of f.cause) f.place → NumberAnswer msg o at (Err f)
+  pub number_fault : (f : Fault) → o ≡ refused (code_of f.cause) f.place → NumberAnswer msg o at (Err f)
   number_fault f e = number_refused e refl
 
   pub number_found : {r : Result Number Fault} {v n : ℕ} → o ≡ got v (drop n msg) → n ≤ length msg → at ≤ n

@@ -19,7 +19,7 @@ use Rattle.x696.specs.Length.{octet}
 use Rattle.x696.specs.Tag.{Tag as TagOf, tag, group_octets, tag_octets, read_tag}
 use Rattle.octets.specs.Answers.{TagAnswer, TagFound, tag_read, fault, long_tag, capped}
 use Rattle.std.proofs.Common.{Result, Ok, Err}
-use Rattle.octets.specs.Cause.{number_of}
+use Rattle.octets.specs.Cause.{code_of}
 use Rattle.octets.specs.declared.faults.Cause.{Cause}
 use Rattle.octets.specs.declared.faults.Cause.TheVariants.{Short, NotCanonical}
 use Rattle.octets.specs.declared.faults.Fault.{Fault}
@@ -29,7 +29,7 @@ use Rattle.octets.proofs.Groups.{capped_low, capped_below, capped_above}
 
 -- ---- answers
 module _ {msg : List ℕ} {o : Outcome (List ℕ) TagOf} {at : ℕ} where
-  pub tag_refused : {k : Cause} {p : ℕ} {f : Fault} → o ≡ refused (number_of k) p → f ≡ fault k p
+  pub tag_refused : {k : Cause} {p : ℕ} {f : Fault} → o ≡ refused (code_of k) p → f ≡ fault k p
       → TagAnswer msg o at (Err f)
   tag_refused e h = record {
     went = λ x g. let z : ◌≡◌ {A = ℕ} 0 1 = cc in absurd (omega arith);

@@ -7,7 +7,7 @@ use Rattle.x696.specs.Digits.{from_digits}
 use Rattle.x696.specs.Fewest.{is_fewest, is_fewest_signed, signed_word}
 use Rattle.x696.specs.Length.{run}
 use Rattle.x696.specs.Tag.{Tag as TagOf, tag, read_groups}
-use Rattle.octets.specs.Cause.{number_of}
+use Rattle.octets.specs.Cause.{code_of}
 use Rattle.octets.specs.declared.units.Octets.{Octets}
 use Rattle.octets.specs.declared.faults.Cause.{Cause}
 use Rattle.octets.specs.declared.faults.Fault.{Fault}
@@ -33,7 +33,7 @@ pub record RunFound (msg : List ℕ) (o : Outcome (List ℕ) (List ℕ)) (at : �
 
 pub record RunAnswer (msg : List ℕ) (o : Outcome (List ℕ) (List ℕ)) (at : ℕ) (r : Result Piece Fault) : Type 0 where
   pub went : (x : Piece) → r ≡ Ok x → RunFound msg o at x
-  pub stopped : (f : Fault) → r ≡ Err f → o ≡ refused (number_of f.cause) f.place
+  pub stopped : (f : Fault) → r ≡ Err f → o ≡ refused (code_of f.cause) f.place
 
 -- ---- a number
 abbrev pub number : (value next : ℕ) → Number
@@ -46,12 +46,12 @@ pub record NumberFound (msg : List ℕ) (o : Outcome (List ℕ) ℕ) (at value n
 
 pub record NumberAnswer (msg : List ℕ) (o : Outcome (List ℕ) ℕ) (at : ℕ) (r : Result Number Fault) : Type 0 where
   pub went : (x : Number) → r ≡ Ok x → NumberFound msg o at x.value x.next
-  pub stopped : (f : Fault) → r ≡ Err f → o ≡ refused (number_of f.cause) f.place
+  pub stopped : (f : Fault) → r ≡ Err f → o ≡ refused (code_of f.cause) f.place
 
 -- a quantity is a number of occurrences
 pub record QuantityAnswer (msg : List ℕ) (o : Outcome (List ℕ) ℕ) (at : ℕ) (r : Result Quantity Fault) : Type 0 where
   pub went : (x : Quantity) → r ≡ Ok x → NumberFound msg o at x.many.0 x.next
-  pub stopped : (f : Fault) → r ≡ Err f → o ≡ refused (number_of f.cause) f.place
+  pub stopped : (f : Fault) → r ≡ Err f → o ≡ refused (code_of f.cause) f.place
 
 -- ---- a tag: its number as far as 2,097,152, one above the greatest of a table
 unfoldable pub capped : ℕ → ℕ
@@ -69,7 +69,7 @@ pub record TagFound (msg : List ℕ) (o : Outcome (List ℕ) TagOf) (at : ℕ) (
 
 pub record TagAnswer (msg : List ℕ) (o : Outcome (List ℕ) TagOf) (at : ℕ) (r : Result Tag Fault) : Type 0 where
   pub went : (x : Tag) → r ≡ Ok x → TagFound msg o at x
-  pub stopped : (f : Fault) → r ≡ Err f → o ≡ refused (number_of f.cause) f.place
+  pub stopped : (f : Fault) → r ≡ Err f → o ≡ refused (code_of f.cause) f.place
 
 -- ---- parts of the definitions of X.696, under names
 -- a length determinant in the long form, from its k subsequent octets on, and what it counts

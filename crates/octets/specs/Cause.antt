@@ -5,17 +5,17 @@ use Rattle.octets.specs.declared.faults.Cause.{Cause}
 use Rattle.octets.specs.declared.faults.Cause.TheVariants.{TableSize, TableRow, UnknownType, Long, Short}
 use Rattle.octets.specs.declared.faults.Cause.TheVariants.{NotCanonical, NotAllowed, Wide, LeftOver, Nodes, BadList, Room, Path}
 
-abbrev pub number_of : Cause → ℕ
-number_of TableSize = 1
-number_of TableRow = 2
-number_of UnknownType = 3
-number_of Long = 4
-number_of Short = 5
-number_of NotCanonical = 6
-number_of NotAllowed = 7
-number_of Wide = 8
-number_of LeftOver = 9
-number_of Nodes = 10
-number_of BadList = 11
-number_of Room = 12
-number_of Path = 13
+abbrev pub code_of : Cause → ℕ
+code_of TableSize = 1
+code_of TableRow = 2
+code_of UnknownType = 3
+code_of Long = 4
+code_of Short = 5
+code_of NotCanonical = 6
+code_of NotAllowed = 7
+code_of Wide = 8
+code_of LeftOver = 9
+code_of Nodes = 10
+code_of BadList = 11
+code_of Room = 12
+code_of Path = 13

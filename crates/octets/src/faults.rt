@@ -1,6 +1,6 @@
 // Why and where something is refused: one fault type from leaf to face.
 ghost use Rattle.std.specs.Prelude.{◌≡◌};
-ghost use Rattle.octets.specs.Cause.{number_of};
+ghost use Rattle.octets.specs.Cause.{code_of};
 ghost use Rattle.octets.specs.Answers.{fault};
 
 // Why something is refused (document 01, "Replies").
@@ -24,7 +24,7 @@ pub enum Cause {
 impl Cause {
     // The refusal's number.
     pub fn number(self) -> u64
-        ensures { result ≡ number_of self }
+        ensures { result ≡ code_of self }
     {
         match self {
             Cause::TableSize => 1,

@@ -1,12 +1,16 @@
 -- The rows judged so far, in the terms of `rows_fault`.
 -- Assumes nothing.
-use Rattle.std.specs.Prelude.{◌≡◌, Bool, true, false, ◌&&◌, List, [], ℕ, ◌<◌, ltb, leb, length, get_or, set}
+use Rattle.std.specs.Prelude.{Result, Ok, Err, ⊤, ◌≡◌, Bool, true, false, ◌&&◌, List, [], ℕ, ◌<◌, ltb, leb, length, get_or, set}
 use Rattle.x696.specs.Outcome.{choose}
 use Rattle.x696.specs.TableFault.{TableFault as Meant, sound, bad_size, bad_row, row_sound, row_nesting, rows_fault}
 use Rattle.x696.specs.SoundTable.{nestings_of}
 use Rattle.table.specs.declared.nestings.Judged.{Judged}
 use Rattle.table.specs.declared.check.TableFault.{TableFault}
-use Rattle.table.specs.declared.check.TableFault.TheVariants.{Sound, Size, Row}
+use Rattle.table.specs.declared.check.TableFault.TheVariants.{Size, Row}
+use Rattle.octets.specs.declared.faults.Cause.TheVariants.{TableSize, TableRow}
+use Rattle.table.specs.declared.reply.Part.TheVariants.{Table}
+use Rattle.table.specs.declared.reply.Refusal.{Refusal}
+use Rattle.table.specs.Replies.{refused}
 use Rattle.table.specs.Orders.{SoundBelow}
 use Rattle.x696.specs.TableCheck.{given, no_bounds, no_range, string_sound}
 
@@ -35,7 +39,12 @@ pub record Judges (rows items : List ℕ) (n : ℕ) (nestings : List ℕ) (r : J
   pub nested : r.bad ≡ false → (k : ℕ) → k < n → get_or nestings k 0 ≡ get_or (nestings_of rows items n) k 0
 
 -- the fault of the definitions as the code names it
-unfoldable pub as_fault : Meant → TableFault
-as_fault sound = Sound
-as_fault bad_size = Size
-as_fault (bad_row k) = Row k
+unfoldable pub as_fault : Meant → Result ⊤ TableFault
+as_fault sound = Ok tt
+as_fault bad_size = Err Size
+as_fault (bad_row k) = Err (Row k)
+
+-- and the refusal that it is: 1 TABLE SIZE, or 2 TABLE ROW at the row
+abbrev pub table_refusal : TableFault → Refusal
+table_refusal Size = refused TableSize Table 0
+table_refusal (Row k) = refused TableRow Table k

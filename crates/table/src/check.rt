@@ -3,18 +3,29 @@ ghost use Rattle.std.specs.Prelude.{◌≡◌};
 ghost use Rattle.x696.specs.TableFault.{sizes_sound, table_fault};
 ghost use Rattle.x696.specs.Operations.{check as checked};
 ghost use Rattle.table.specs.Replies.{as_reply};
-ghost use Rattle.table.specs.Judged.{as_fault};
+ghost use Rattle.table.specs.Judged.{as_fault, table_refusal};
 
 use crate::nestings::{Judged, judge_rows};
-use crate::reply::{Reply, done, refusal};
+use crate::reply::{Part, Refusal, Reply, done};
 use crate::words::{items_in, rows_in};
+use octets::faults::Cause;
 
-// What a table's check comes to.
-#[derive(Clone, Copy)]
+// Why a table is refused.
+#[derive(Clone, Copy, Debug, PartialEq, Eq)]
 pub enum TableFault {
-    Sound,
     Size,
     Row(usize),
+}
+
+impl From<TableFault> for Refusal {
+    ghost from_gives = { λ f r. r ≡ table_refusal f };
+
+    fn from(fault: TableFault) -> Self {
+        match fault {
+            TableFault::Size => Part::Table.refusal(Cause::TableSize.at(0)),
+            TableFault::Row(row) => Part::Table.refusal(Cause::TableRow.at(row)),
+        }
+    }
 }
 
 // Whole rows, 1 to 256; whole items, 0 to 1,024.
@@ -38,18 +49,18 @@ fn sizes_sound(rows: &[u64], items: &[u64]) -> bool
 }
 
 // The first fault of a table: its sizes, then its first bad row.
-pub fn fault_of(rows: &[u64], items: &[u64]) -> TableFault
+pub fn judge(rows: &[u64], items: &[u64]) -> Result<(), TableFault>
     ensures { result ≡ as_fault (table_fault rows.now items.now) }
 {
     if !sizes_sound(rows, items) {
-        return TableFault::Size;
+        return Err(TableFault::Size);
     }
     let mut nestings = [0u8; 256];
     let judged = judge_rows(rows, items, rows_in(rows), &mut nestings);
     if judged.bad {
-        return TableFault::Row(judged.row);
+        return Err(TableFault::Row(judged.row));
     }
-    TableFault::Sound
+    Ok(())
 }
 
 // Check a table: 1 TABLE SIZE, 2 TABLE ROW at the first row that breaks a rule, or 0. It asks nothing of its caller.
@@ -57,9 +68,8 @@ pub fn fault_of(rows: &[u64], items: &[u64]) -> TableFault
 pub fn check(rows: &[u64], items: &[u64]) -> Reply
     ensures { result ≡ as_reply (checked rows.now items.now) }
 {
-    match fault_of(rows, items) {
-        TableFault::Sound => done(0, 0),
-        TableFault::Size => refusal(1, 0, 0),
-        TableFault::Row(row) => refusal(2, 0, row as u64),
+    match judge(rows, items) {
+        Ok(()) => done(0, 0),
+        Err(fault) => Reply::from(Refusal::from(fault)),
     }
 }

@@ -1,5 +1,6 @@
 -- The answer of `read_scalar` is the outcome of reading the row's type, by the row's kind.
 -- Assumes nothing.
+use mathlib.Core.Path.{refl}
 use mathlib.Core.Path.{sym, ◌∙◌}
 use Rattle.kinds.proofs.Simple.{null_goes}
 use Rattle.kinds.proofs.ByKind.{scalar_row, boolean_type, integer_type, listed_type, listed_range, single_type, double_type}
@@ -51,4 +52,4 @@ returns c =
     let six = null_kind _ _ _ c.row_kind-kind.ensures c.requires.1 c.requires.2 c.if-kind-eq1.false c.if-kind-eq2.false
     c.if-kind-eq3.false c.if-kind-eq4.false c.if-kind-eq5.false in
     scalar_row _ _ _ (null_type _ _ _ c.row_kind-kind.ensures six) (sym c.row_kind-kind.ensures ∙ six)
-    (null_goes _ c.requires.3 c.found.ensures)
+    (null_goes _ c.requires.3 refl)

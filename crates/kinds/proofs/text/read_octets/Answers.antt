@@ -1,5 +1,6 @@
 -- The answer of `read_octets` is the outcome of reading an OCTET STRING.
 -- Assumes nothing.
+use Rattle.std.proofs.lemmas.Result.{err_from_is_err_and}
 use mathlib.Core.Path.{refl}
 use native.Mathlib.Omega.{arith}
 use Rattle.kinds.proofs.Texts.{octets_text, any_octets_lem, text_stop, text_size, text_goes}
@@ -9,40 +10,41 @@ pub returns-then-not-is_sized : goal.returns-then-not-is_sized
 returns-then-not-is_sized c =
     text_size (octets_text _ _ _) c.requires.1
     c.run_of.ensures _
-    c.in-Got.is c.is_sized.ensures
-    c.if-not-is_sized.true c.refuse.ensures
+    c.in_ok-run.was c.is_sized.ensures
+    c.if-not-is_sized.true c.at.ensures
 
 pub copy-requires : goal.copy-requires
-copy-requires c = (c.run_of.ensures.went _ c.in-Got.is).inside
+copy-requires c = (c.run_of.ensures.went _ c.in_ok-run.was).inside
 
-pub overflow_add-start : goal.overflow_add-start
-overflow_add-start c =
+pub overflow_add-result : goal.overflow_add-result
+overflow_add-result c =
     omega (
       arith,
       (c.run_of.ensures.went _
-          c.in-Got.is).inside,
+          c.in_ok-run.was).inside,
     )
 
-pub overflow_add-used : goal.overflow_add-used
-overflow_add-used c =
+pub overflow_add-result-3 : goal.overflow_add-result-3
+overflow_add-result-3 c =
     omega (
       arith,
       (c.run_of.ensures.went _
-          c.in-Got.is).inside,
+          c.in_ok-run.was).inside,
       (c.run_of.ensures.went _
-          c.in-Got.is).ahead,
+          c.in_ok-run.was).ahead,
     )
 
-pub returns-in-Refused : goal.returns-in-Refused
-returns-in-Refused c =
-    text_stop (octets_text _ _ _) c.requires.1
-    c.run_of.ensures _ c.in-Refused.is
+pub returns-in_err-run : goal.returns-in_err-run
+returns-in_err-run c =
+    let p = err_from_is_err_and c.from_residual.result c.from_residual.ensures.1 in
+    rw (p.1, p.2) (text_stop (octets_text _ _ _) c.requires.1
+    c.run_of.ensures _ c.in_err-run.was)
 
-pub returns-else-not-is_sized : goal.returns-else-not-is_sized
-returns-else-not-is_sized c =
+pub returns : goal.returns
+returns c =
     text_goes (octets_text _ _ _) c.requires.1
     c.run_of.ensures _
-    c.in-Got.is c.is_sized.ensures
+    c.in_ok-run.was c.is_sized.ensures
     c.if-not-is_sized.false (any_octets_lem _) refl
     c.put_node.ensures
-    c.copy.ensures c.got.ensures
+    c.copy.ensures refl

@@ -3,7 +3,7 @@
 use mathlib.Core.Path.{refl}
 use Rattle.table.proofs.Steps.{fails, holds}
 use Rattle.table.proofs.Faults.{sizes_bad, few_rows_lem, row_bad, none_bad}
-use Rattle.table.proofs.check.fault_of.Goals as goal
+use Rattle.table.proofs.check.judge.Goals as goal
 
 pub returns-then-not-sizes_sound : goal.returns-then-not-sizes_sound
 returns-then-not-sizes_sound c = sizes_bad _ _ (fails c.sizes_sound.ensures c.if-not-sizes_sound.true)
