@@ -28,17 +28,15 @@ use Rattle.x696.proofs.TableTags.{alternatives_count}
 use Rattle.x696.proofs.TableRows.{choice_row}
 use Rattle.x696.proofs.TableKinds.{choice_type}
 use Rattle.octets.specs.Answers.{capped, TagAnswer}
-use Rattle.octets.specs.declared.answers.Fault.{Fault}
+use Rattle.octets.specs.declared.faults.Fault.{Fault}
 use Rattle.octets.specs.declared.answers.Tag.{Tag}
-use Rattle.octets.specs.declared.answers.ReadTag.{ReadTag}
-use Rattle.octets.specs.declared.answers.ReadTag.TheVariants.{Got as GotTag, Refused as NoTag}
 use Rattle.octets.proofs.Answered.{next_refused, next_got}
 use Rattle.kinds.specs.Run.{cursor, Gone, Ran, inside_at}
 use Rattle.kinds.specs.declared.cursor.Cursor.{Cursor}
-use Rattle.kinds.specs.declared.cursor.Read.{Read}
-use Rattle.kinds.specs.declared.cursor.Read.TheVariants.{Got}
 use Rattle.kinds.proofs.Ran.{offset_is}
 use Rattle.reading.proofs.Groups.{alone_stop, alone_done}
+use Rattle.std.proofs.Common.{Result, Ok, Err}
+use Rattle.octets.specs.Cause.{code_of}
 
 eqb_capped : (n x : ℕ) → x ≤ 2097151 → eqb (capped n) x ≡ eqb n x
 unfolding capped
@@ -89,11 +87,11 @@ module _ (rows items msg : List ℕ) (row at count : ℕ) (inside : at ≤ lengt
   unfolding inside_at read_inside
   tag_first = rw (choice_type rows items row sound is, offset_is msg at inside)
 
-  module _ {x : ReadTag} (t : TagAnswer msg (read_tag at (drop at msg)) at x) where
-    pub tag_stops : (f : Fault) → x ≡ NoTag f → D ≡ refused f.number f.place
+  module _ {x : Result Tag Fault} (t : TagAnswer msg (read_tag at (drop at msg)) at x) where
+    pub tag_stops : (f : Fault) → x ≡ Err f → D ≡ refused (code_of f.cause) f.place
     tag_stops f e = tag_first ∙ next_refused _ (t.stopped f e)
 
-    module _ (g n j : ℕ) (m : Tag) (e : x ≡ GotTag m) (eg : g ≡ row_first rows row) (en : n ≡ row_count rows row)
+    module _ (g n j : ℕ) (m : Tag) (e : x ≡ Ok m) (eg : g ≡ row_first rows row) (en : n ≡ row_count rows row)
         (ej : (f : ℕ → Ty) → j ≡ alternative (alternatives_from f items g n) (tag m.class m.number)) where
       -- the place of the whole number's tag
       place_is : (whole : ℕ) → m.number ≡ capped whole → alternative among (tag m.class whole) ≡ j
@@ -129,8 +127,8 @@ module _ (rows items msg : List ℕ) (row at count : ℕ) (inside : at ≤ lengt
         pub chosen_stops : {k q : ℕ} → O ≡ refused k q → D ≡ refused k q
         chosen_stops f = alone_stop 12 j chosen f
 
-        pub chosen_goes : {u : ℕ} (l : List ℕ) {b l₁ l' b' : List ℕ} {d : Cursor} {r : Read}
+        pub chosen_goes : {u : ℕ} (l : List ℕ) {b l₁ l' b' : List ℕ} {d : Cursor} {r : Result Cursor Fault}
             → l₁ ≡ sets l (count * node_width) (12 ∷ j ∷ [])
             → Gone msg O m.next (count + 1) u l₁ b l' b' d
-            → r ≡ Got (cursor d.at d.count d.used j) → Ran msg D at count u l b l' b' r
+            → r ≡ Ok (cursor d.at d.count d.used j) → Ran msg D at count u l b l' b' r
         chosen_goes l s w f = alone_done 12 j chosen count l s (t.went m e).ahead w f

@@ -11,14 +11,14 @@ use Rattle.x696.specs.Outcome.{Outcome, refused, got, next}
 use Rattle.x696.specs.Value.{Val, node, Vals, no_values, value, only, node_width, size, sizes}
 use Rattle.x696.specs.Value.{nodes, nodes_of, contents}
 use Rattle.x696.specs.Read.{Message, message}
-use Rattle.octets.specs.declared.answers.Fault.{Fault}
+use Rattle.octets.specs.declared.faults.Fault.{Fault}
 use Rattle.kinds.specs.Run.{cursor, number_of, Gone, Ran}
 use Rattle.kinds.specs.declared.cursor.Cursor.{Cursor}
-use Rattle.kinds.specs.declared.cursor.Read.{Read}
-use Rattle.kinds.specs.declared.cursor.Read.TheVariants.{Got, Refused}
 use Rattle.kinds.proofs.Ran.{ran_gone}
 use Rattle.reading.specs.Members.{last_number, RanAll}
 use Rattle.reading.proofs.Groups.{stored_node, Rest, rest_start, first, rest_turn, rest_stop}
+use Rattle.std.proofs.Common.{Result, Ok, Err}
+use Rattle.octets.specs.Cause.{code_of}
 
 -- what is left, with x the number of the last value read
 pub record Chain (o₀ : Outcome Message Vals) (p₀ n₀ u₀ : ℕ) (l₀ b₀ : List ℕ) (o : Outcome Message Vals) (p n u x : ℕ)
@@ -49,8 +49,8 @@ module _ {o₀ : Outcome Message Vals} {p₀ n₀ u₀ : ℕ} {l₀ b₀ : List 
     pub chain_stop : {j q : ℕ} → o₁ ≡ refused j q → o₀ ≡ refused j q
     chain_stop = rest_stop inv.rest k e
 
-  pub chain_done : (msg : List ℕ) {r : Read} → o ≡ got no_values (message (drop p msg) n) → p ≤ length msg
-      → r ≡ Got (cursor p n u x) → RanAll msg o₀ p₀ n₀ u₀ l₀ b₀ l b r
+  pub chain_done : (msg : List ℕ) {r : Result Cursor Fault} → o ≡ got no_values (message (drop p msg) n) → p ≤ length msg
+      → r ≡ Ok (cursor p n u x) → RanAll msg o₀ p₀ n₀ u₀ l₀ b₀ l b r
   unfolding sizes contents nodes last_number
   chain_done msg f h e =
       let z = inv.rest.ends no_values (message (drop p msg) n) f in record {
@@ -71,7 +71,7 @@ module _ {o₀ : Outcome Message Vals} {p₀ n₀ u₀ : ℕ} {l₀ b₀ : List 
       }
 
 pub all_stopped : {msg : List ℕ} {o : Outcome Message Vals} {p n u : ℕ} {l b l' b' : List ℕ} (f : Fault)
-    → o ≡ refused f.number f.place → RanAll msg o p n u l b l' b' (Refused f)
+    → o ≡ refused (code_of f.cause) f.place → RanAll msg o p n u l b l' b' (Err f)
 all_stopped f e = record {
   went = λ c g. let no : ◌≡◌ {A = ℕ} 0 1 = cc in absurd (omega arith);
   stopped = λ y g. cc;
@@ -80,13 +80,13 @@ all_stopped f e = record {
 -- ---- a group: its node, then its members
 module _ {D : Outcome Message Val} {o₀ : Outcome Message Vals} (k x : ℕ)
     (e : D ≡ next o₀ λ vs s. got (node k x [] vs) s) {msg : List ℕ} {u : ℕ} (n : ℕ) {b l₁ l' b' : List ℕ}
-    {p₀ : ℕ} {q : Read} (w : RanAll msg o₀ p₀ (n + 1) u l₁ b l' b' q) where
-  pub group_stops : (f : Fault) → q ≡ Refused f → D ≡ refused f.number f.place
+    {p₀ : ℕ} {q : Result Cursor Fault} (w : RanAll msg o₀ p₀ (n + 1) u l₁ b l' b' q) where
+  pub group_stops : (f : Fault) → q ≡ Err f → D ≡ refused (code_of f.cause) f.place
   unfolding next
   group_stops f g = rw (e, w.stopped f g)
 
-  pub group_goes : {p : ℕ} (l : List ℕ) (d : Cursor) {r : Read} → q ≡ Got d
-      → l₁ ≡ sets l (n * node_width) (k ∷ x ∷ []) → p ≤ p₀ → r ≡ Got (cursor d.at d.count d.used x)
+  pub group_goes : {p : ℕ} (l : List ℕ) (d : Cursor) {r : Result Cursor Fault} → q ≡ Ok d
+      → l₁ ≡ sets l (n * node_width) (k ∷ x ∷ []) → p ≤ p₀ → r ≡ Ok (cursor d.at d.count d.used x)
       → Ran msg D p n u l b l' b' r
   unfolding next sizes contents nodes size number_of
   group_goes l d g s h =
@@ -116,7 +116,7 @@ alone_refused (refused i p) j q e = cc
 alone_refused (got v s) j q e = let no : ◌≡◌ {A = ℕ} 0 1 = cc in absurd (omega arith)
 
 pub alone_ran : {msg : List ℕ} (o : Outcome Message Val) {o₀ : Outcome Message Vals} {p n u : ℕ} {l b l' b' : List ℕ}
-    {r : Read} → o₀ ≡ (next o λ v s. got (only v) s) → RanAll msg o₀ p n u l b l' b' r → Ran msg o p n u l b l' b' r
+    {r : Result Cursor Fault} → o₀ ≡ (next o λ v s. got (only v) s) → RanAll msg o₀ p n u l b l' b' r → Ran msg o p n u l b l' b' r
 unfolding sizes contents nodes size last_number
 alone_ran {msg} o {l = l} {b} e w = record {
   went = λ c f.
@@ -132,5 +132,5 @@ alone_ran {msg} o {l = l} {b} e w = record {
         stored = z.stored ∙ rw (h, append-nil (nodes v)) refl;
         copied = z.copied ∙ rw (h, append-nil (contents v)) refl;
       };
-  stopped = λ f g. alone_refused o f.number f.place (sym e ∙ w.stopped f g);
+  stopped = λ f g. alone_refused o (code_of f.cause) f.place (sym e ∙ w.stopped f g);
 }

@@ -26,9 +26,13 @@ use Rattle.octets.proofs.Octets.{below_drop}
 use Rattle.kinds.specs.Run.{Gone, Ran}
 use Rattle.reading.specs.Parts.{checked}
 use Rattle.kinds.specs.declared.cursor.Cursor.{Cursor}
-use Rattle.kinds.specs.declared.cursor.Read.{Read}
 use Rattle.kinds.proofs.Ran.{ran_refused, ran_gone, offset_is}
 use Rattle.reading.proofs.Defaults.{never_absent, default_same, missing_default, default_kind}
+use Rattle.std.proofs.Common.{Result}
+use Rattle.std.proofs.Common.{Err}
+use Rattle.octets.specs.declared.faults.Cause.TheVariants.{NotCanonical}
+use Rattle.octets.specs.Answers.{fault}
+use Rattle.octets.specs.declared.faults.Fault.{Fault}
 
 -- a bit is 0 exactly if it is not 1
 pub bit_zero : (msg : List ℕ) (pre b : ℕ) → eqb (bit_at msg pre b) 0 ≡ not (eqb (bit_at msg pre b) 1)
@@ -115,9 +119,9 @@ module _ (rows items msg : List ℕ) (row i pre b at count : ℕ) (inside : at �
           copied = g.copied;
         }
 
-        pub carried_goes : {r : Read} → Below 8 msg → r ≡ checked mark given at d → Ran msg P at count u l n l' n' r
+        pub carried_goes : {r : Result Cursor Fault} → Below 8 msg → r ≡ checked mark given at d → Ran msg P at count u l n l' n' r
         unfolding must checked missing
-        carried_goes below e =
+        carried_goes {r} below e =
             let fit = (sound node_limit T (length msg) (message (drop at msg) count) (below_drop 8 msg at below)
             g.reads).fits in
             cases (eqb mark 1)
@@ -130,5 +134,7 @@ module _ (rows items msg : List ℕ) (row i pre b at count : ℕ) (inside : at �
             rw (missing_default mark given T marked other, g.number)
             (default_same T given g.what (sound_default other) fit) in
             cases (eqb d.number given)
-            (λ y. ran_refused (carried_same (is ∙ y)) (rw (t, y) at e))
+            (λ y.
+            let stops : r ≡ Err (fault NotCanonical at) = rw (t, y) at e in
+            rw stops (ran_refused (carried_same (is ∙ y)) refl))
             (λ y. ran_gone (differing (is ∙ y)) (rw (t, y) at e)))

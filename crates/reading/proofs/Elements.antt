@@ -16,12 +16,13 @@ use Rattle.x696.specs.Table.{row_kind, row_first, component_row, type_of}
 use Rattle.x696.specs.TableFault.{row_sound}
 use Rattle.x696.proofs.TableKinds.{sequence_of_type}
 use Rattle.octets.specs.Answers.{QuantityAnswer}
-use Rattle.octets.specs.declared.answers.Fault.{Fault}
-use Rattle.octets.specs.declared.answers.ReadQuantity.{ReadQuantity}
-use Rattle.octets.specs.declared.answers.ReadQuantity.TheVariants.{Refused as NoQuantity}
+use Rattle.octets.specs.declared.faults.Fault.{Fault}
 use Rattle.octets.proofs.Answered.{next_refused}
 use Rattle.kinds.specs.Run.{inside_at}
 use Rattle.kinds.proofs.Ran.{offset_is}
+use Rattle.std.proofs.Common.{Result, Err}
+use Rattle.octets.specs.Cause.{code_of}
+use Rattle.octets.specs.declared.answers.Quantity.{Quantity}
 
 -- ---- a value
 module _ (t : Ty) (msg : List ℕ) (at count : ℕ) where
@@ -48,6 +49,6 @@ module _ (rows items msg : List ℕ) (row at count : ℕ) (inside : at ≤ lengt
   unfolding inside_at read_inside read
   quantity_first = rw (sequence_of_type rows items row sound is, offset_is msg at inside)
 
-  module _ {x : ReadQuantity} (q : QuantityAnswer msg (read_unsigned at (drop at msg)) at x) where
-    pub quantity_stops : (f : Fault) → x ≡ NoQuantity f → D ≡ refused f.number f.place
+  module _ {x : Result Quantity Fault} (q : QuantityAnswer msg (read_unsigned at (drop at msg)) at x) where
+    pub quantity_stops : (f : Fault) → x ≡ Err f → D ≡ refused (code_of f.cause) f.place
     quantity_stops f e = quantity_first ∙ next_refused _ (q.stopped f e)

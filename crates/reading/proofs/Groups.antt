@@ -15,9 +15,9 @@ use Rattle.x696.specs.Read.{Message, message}
 use Rattle.octets.proofs.Stores.{sets_after}
 use Rattle.kinds.specs.Run.{cursor, number_of, Gone, Ran}
 use Rattle.kinds.specs.declared.cursor.Cursor.{Cursor}
-use Rattle.kinds.specs.declared.cursor.Read.{Read}
-use Rattle.kinds.specs.declared.cursor.Read.TheVariants.{Got}
 use Rattle.kinds.proofs.Ran.{ran_gone}
+use Rattle.std.proofs.Common.{Result, Ok}
+use Rattle.octets.specs.declared.faults.Fault.{Fault}
 
 -- the store of a node, and what follows it
 pub stored_node : (l ws : List ℕ) {m : List ℕ} (n k x : ℕ) → m ≡ sets l (n * node_width) (k ∷ x ∷ [])
@@ -95,8 +95,8 @@ module _ {D o : Outcome Message Val} (k x : ℕ) (e : D ≡ next o λ v s. got (
   alone_stop f = rw (e, f)
 
   pub alone_done : {msg : List ℕ} {p u : ℕ} (n : ℕ) (l : List ℕ) {b l₁ : List ℕ} {p₀ : ℕ} {l' b' : List ℕ}
-      {r : Read} {d : Cursor} → l₁ ≡ sets l (n * node_width) (k ∷ x ∷ []) → p ≤ p₀ → Gone msg o p₀ (n + 1) u l₁ b l' b' d
-      → r ≡ Got (cursor d.at d.count d.used x) → Ran msg D p n u l b l' b' r
+      {r : Result Cursor Fault} {d : Cursor} → l₁ ≡ sets l (n * node_width) (k ∷ x ∷ []) → p ≤ p₀ → Gone msg o p₀ (n + 1) u l₁ b l' b' d
+      → r ≡ Ok (cursor d.at d.count d.used x) → Ran msg D p n u l b l' b' r
   unfolding next sizes contents nodes size number_of
   alone_done n l s h g =
       let v = g.what in

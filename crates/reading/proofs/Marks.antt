@@ -1,6 +1,6 @@
 -- Presence bits of components counted from the last one on, a component compared with its DEFAULT, and a node counted
 -- or one too many. Premises are the callees' `ensures`. Assumes nothing.
-use mathlib.Core.Path.{◌≡◌, refl}
+use mathlib.Core.Path.{◌≡◌, refl, ap}
 use mathlib.Core.List.{List, [], ◌∷◌}
 use Prim.Native.Nat.{ℕ, zero, suc, ◌+◌, ◌*◌, ◌-◌, ◌<◌, ◌≤◌}
 use native.Mathlib.Omega.{arith}
@@ -18,9 +18,10 @@ use Rattle.octets.specs.Answers.{fault}
 use Rattle.kinds.specs.Run.{cursor, Ran}
 use Rattle.reading.specs.Parts.{checked}
 use Rattle.kinds.specs.declared.cursor.Cursor.{Cursor}
-use Rattle.kinds.specs.declared.cursor.Read.{Read}
-use Rattle.kinds.specs.declared.cursor.Read.TheVariants.{Got, Refused}
 use Rattle.kinds.proofs.Ran.{offset_is, ran_refused, ran_leaf}
+use Rattle.std.proofs.Common.{Result, Ok, Err}
+use Rattle.octets.specs.declared.faults.Cause.TheVariants.{NotCanonical, Nodes}
+use Rattle.octets.specs.declared.faults.Fault.{Fault}
 
 -- ---- presence bits
 pub mark_none : (m : ℕ) → m ≡ 0 → 0 ≡ presence_count m
@@ -69,15 +70,15 @@ module _ (items : List ℕ) (first n : ℕ) where
 
 -- ---- a component and its DEFAULT
 module _ (m d p : ℕ) (c : Cursor) where
-  pub checked_optional : m ≡ 1 → Got c ≡ checked m d p c
+  pub checked_optional : m ≡ 1 → Ok c ≡ checked m d p c
   unfolding checked
   checked_optional e = rw (eq-eqb m 1 e)
 
-  pub checked_equal : {r : Read} → (m ≡ 1 → ⊥) → c.number ≡ d → r ≡ Refused (fault 6 p) → r ≡ checked m d p c
+  pub checked_equal : {stop : Fault} → (m ≡ 1 → ⊥) → c.number ≡ d → stop ≡ fault NotCanonical p → Err stop ≡ checked m d p c
   unfolding checked
-  checked_equal h e f = rw (ne_eqb m 1 h, eq-eqb c.number d e) f
+  checked_equal h e f = rw (ne_eqb m 1 h, eq-eqb c.number d e) (ap Err f)
 
-  pub checked_other : (m ≡ 1 → ⊥) → (c.number ≡ d → ⊥) → Got c ≡ checked m d p c
+  pub checked_other : (m ≡ 1 → ⊥) → (c.number ≡ d → ⊥) → Ok c ≡ checked m d p c
   unfolding checked
   checked_other h g = rw (ne_eqb m 1 h, ne_eqb c.number d g)
 
@@ -95,14 +96,14 @@ module _ (msg : List ℕ) (at count : ℕ) (k : Message → Outcome Message Val)
 
 -- a node too many, whatever its value
 pub ran_over : (msg : List ℕ) (at count : ℕ) (k : Message → Outcome Message Val) {used : ℕ}
-    {l b l' b' : List ℕ} {r : Read} → 4096 ≤ count → at ≤ length msg → r ≡ Refused (fault 10 at)
-    → Ran msg (counted node_limit (length msg) (message (drop at msg) count) k) at count used l b l' b' r
+    {l b l' b' : List ℕ} {stop : Fault} → 4096 ≤ count → at ≤ length msg → stop ≡ fault Nodes at
+    → Ran msg (counted node_limit (length msg) (message (drop at msg) count) k) at count used l b l' b' (Err stop)
 ran_over msg at count k h g f = ran_refused (counted_over msg at count k h g) f
 
 -- a component that is not carried
-pub ran_missing : (msg : List ℕ) (at count kind number : ℕ) {used : ℕ} {l b l' : List ℕ} {r : Read}
+pub ran_missing : (msg : List ℕ) (at count kind number : ℕ) {used : ℕ} {l b l' : List ℕ} {r : Result Cursor Fault}
     → count < 4096 → at ≤ length msg → l' ≡ sets l (count * node_width) (kind ∷ number ∷ [])
-    → r ≡ Got (cursor at (count + 1) used number)
+    → r ≡ Ok (cursor at (count + 1) used number)
     → Ran msg (counted node_limit (length msg) (message (drop at msg) count) λ s. got (node kind number [] no_values) s)
     at count used l b l' b r
 ran_missing msg at count kind number {used} {l} {b} h g s f =

@@ -25,8 +25,6 @@ use Rattle.x696.specs.TableFault.{row_sound}
 use Rattle.x696.specs.SoundTable.{Component}
 use Rattle.octets.specs.Answers.{QuantityAnswer}
 use Rattle.octets.specs.declared.answers.Quantity.{Quantity}
-use Rattle.octets.specs.declared.answers.ReadQuantity.{ReadQuantity}
-use Rattle.octets.specs.declared.answers.ReadQuantity.TheVariants.{Got as GotQuantity}
 use Rattle.octets.proofs.Answered.{next_got}
 use Rattle.kinds.specs.Run.{inside_at}
 use Rattle.octets.proofs.PresenceBits.{bits_read}
@@ -34,6 +32,8 @@ use Rattle.reading.specs.Members.{member_row, member_mark, member_at, members, M
 use Rattle.reading.proofs.Groups.{first}
 use Rattle.reading.proofs.Elements.{quantity_first}
 use Rattle.reading.proofs.Sequences.{cases_eq, plain_any, marked_one, bits_at, node_first}
+use Rattle.std.proofs.Common.{Result, Ok}
+use Rattle.octets.specs.declared.faults.Fault.{Fault}
 
 -- two readings that go on alike
 next_alike : {S A B : Type 0} (o : Outcome S A) (f g : A → S → Outcome S B) → ((x : A) (s : S) → f x s ≡ g x s)
@@ -136,9 +136,9 @@ module _ (rows items msg : List ℕ) (row at count : ℕ) (inside : at ≤ lengt
       node_first rows items msg row at count inside sound is g n k eg en ek bits-got
       ∙ rw same refl
 
-  pub quantity_members : (is : row_kind rows row ≡ 11) {x : ReadQuantity}
+  pub quantity_members : (is : row_kind rows row ≡ 11) {x : Result Quantity Fault}
       → QuantityAnswer msg (read_unsigned at (drop at msg)) at x
-      → (g inner : ℕ) (y : Quantity) (pre : ℕ) → x ≡ GotQuantity y → g ≡ row_first rows row
+      → (g inner : ℕ) (y : Quantity) (pre : ℕ) → x ≡ Ok y → g ≡ row_first rows row
       → inner ≡ component_row items g
       → D ≡ next (members rows items msg inner false pre y.many.0 0 0 (message (drop y.next msg) (count + 1)))
       λ vs s. got (node 11 y.many.0 [] vs) s

@@ -1,6 +1,6 @@
 -- One member of a group, missing or carried, plain or with a mark: one law for each return of its reader.
 -- Premises are the callees' `ensures`. Assumes nothing.
-use mathlib.Core.Path.{◌≡◌, refl, sym, ◌∙◌}
+use mathlib.Core.Path.{◌≡◌, refl, sym, ◌∙◌, ap}
 use mathlib.Core.Bool.{Bool, true, false, cond, not, ◌&&◌}
 use mathlib.Core.List.{List, []}
 use Prim.Native.Nat.{ℕ, ◌≤◌}
@@ -19,13 +19,14 @@ use Rattle.octets.specs.Answers.{fault}
 use Rattle.octets.specs.Presence.{bit_at}
 use Rattle.kinds.specs.Run.{cursor, Gone, Ran}
 use Rattle.kinds.specs.declared.cursor.Cursor.{Cursor}
-use Rattle.kinds.specs.declared.cursor.Read.{Read}
-use Rattle.kinds.specs.declared.cursor.Read.TheVariants.{Got, Refused}
 use Rattle.kinds.proofs.Ran.{ran_gone, ran_by}
 use Rattle.reading.specs.Parts.{checked}
 use Rattle.reading.specs.Members.{member_at, Member}
 use Rattle.reading.proofs.Sequences.{cases_eq}
 use Rattle.reading.proofs.Components.{component_absent, component_default_lem, carried_stops, carried_goes}
+use Rattle.std.proofs.Common.{Result, Ok, Err}
+use Rattle.octets.specs.declared.faults.Cause.TheVariants.{NotCanonical}
+use Rattle.octets.specs.declared.faults.Fault.{Fault}
 
 -- ---- tests
 pub bit_plain : (m : ℕ) (x : Bool) → m ≡ 0 → false ≡ not (eqb m 0) && x
@@ -103,22 +104,22 @@ module _ (rows items msg : List ℕ) (above row mark i pre b at count : ℕ) (in
           refl x refl (there h) f)
 
       module _ {u : ℕ} {l n l' n' : List ℕ} {d : Cursor} (g : Gone msg O at count u l n l' n' d) (below : Below 8 msg)
-          {y : Bool} (ey : y ≡ eqb mark 2 && eqb d.number (component_default items i)) {r : Read} where
-        by_check : (mark ≡ 0 → ⊥) → r ≡ checked mark (component_default items i) at d → Ran msg M at count u l n l' n' r
+          {y : Bool} (ey : y ≡ eqb mark 2 && eqb d.number (component_default items i)) where
+        by_check : {r : Result Cursor Fault} → (mark ≡ 0 → ⊥) → r ≡ checked mark (component_default items i) at d → Ran msg M at count u l n l' n' r
         by_check h e =
             let z = known.marked h in
             ran_by (as_item z.2 z.3)
             (carried_goes rows items msg above i pre b at count inside z.1 row z.2 mark z.3 h
             (component_default items i) refl x refl (there h) g below e)
 
-        pub member_default_lem : y ≡ true → r ≡ Refused (fault 6 at) → Ran msg M at count u l n l' n' r
+        pub member_default_lem : {stop : Fault} → y ≡ true → stop ≡ fault NotCanonical at → Ran msg M at count u l n l' n' (Err stop)
         unfolding checked
         member_default_lem t e =
             let two = and_both (eqb mark 2) (eqb d.number (component_default items i)) (sym ey ∙ t) in
             let is : mark ≡ 2 = eqb-true mark 2 two.0 in
-            by_check (λ z. omega arith) (rw (is, two.1) e)
+            by_check (λ z. omega arith) (rw (is, two.1) (ap Err e))
 
-        pub member_goes : y ≡ false → r ≡ Got (cursor d.at d.count d.used d.number)
+        pub member_goes : {r : Result Cursor Fault} → y ≡ false → r ≡ Ok (cursor d.at d.count d.used d.number)
             → Ran msg M at count u l n l' n' r
         unfolding checked
         member_goes t e =

@@ -11,11 +11,11 @@ use Rattle.x696.specs.Operations.{node_limit}
 use Rattle.x696.specs.Table.{item_width, component_row, component_mark, component_default, type_of}
 use Rattle.x696.specs.SoundTable.{Component}
 use Rattle.octets.specs.Presence.{bit_at}
-use Rattle.octets.specs.declared.answers.Fault.{Fault}
+use Rattle.octets.specs.declared.faults.Fault.{Fault}
 use Rattle.kinds.specs.Run.{number_of}
 use Rattle.kinds.specs.declared.cursor.Cursor.{Cursor}
-use Rattle.kinds.specs.declared.cursor.Read.{Read}
-use Rattle.kinds.specs.declared.cursor.Read.TheVariants.{Got, Refused}
+use Rattle.std.specs.Prelude.{Result, Ok, Err}
+use Rattle.octets.specs.Cause.{code_of}
 
 -- the row and the mark of the member at item j: the item's where members are listed
 unfoldable pub member_row : (items : List ℕ) → (inner : ℕ) → (listed : Bool) → (j : ℕ) → ℕ
@@ -69,6 +69,6 @@ pub record GoneAll (msg : List ℕ) (o : Outcome Message Vals) (p n u : ℕ) (l 
   pub stored : l' ≡ sets l (n * node_width) (nodes_of what)
   pub copied : b' ≡ sets b u (contents_of what)
 
-pub record RanAll (msg : List ℕ) (o : Outcome Message Vals) (p n u : ℕ) (l b l' b' : List ℕ) (r : Read) : Type 0 where
-  pub went : (c : Cursor) → r ≡ Got c → GoneAll msg o p n u l b l' b' c
-  pub stopped : (f : Fault) → r ≡ Refused f → o ≡ refused f.number f.place
+pub record RanAll (msg : List ℕ) (o : Outcome Message Vals) (p n u : ℕ) (l b l' b' : List ℕ) (r : Result Cursor Fault) : Type 0 where
+  pub went : (c : Cursor) → r ≡ Ok c → GoneAll msg o p n u l b l' b' c
+  pub stopped : (f : Fault) → r ≡ Err f → o ≡ refused (code_of f.cause) f.place

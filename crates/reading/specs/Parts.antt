@@ -4,12 +4,13 @@ use Rattle.std.specs.Prelude.{◌≡◌, true, cond, not, ◌&&◌, List, ℕ, �
 use Rattle.x696.specs.TableCheck.{tag_before}
 use Rattle.octets.specs.Answers.{fault}
 use Rattle.kinds.specs.declared.cursor.Cursor.{Cursor}
-use Rattle.kinds.specs.declared.cursor.Read.{Read}
-use Rattle.kinds.specs.declared.cursor.Read.TheVariants.{Got, Refused}
+use Rattle.std.specs.Prelude.{Result, Ok, Err}
+use Rattle.octets.specs.declared.faults.Cause.TheVariants.{NotCanonical}
+use Rattle.octets.specs.declared.faults.Fault.{Fault}
 
 -- a component that was read, with its mark and default: 6 where it is marked DEFAULT and its number is the default's
-unfoldable pub checked : (mark default place : ℕ) → Cursor → Read
-checked m d p c = cond (not (eqb m 1) && eqb c.number d) (Refused (fault 6 p)) (Got c)
+unfoldable pub checked : (mark default place : ℕ) → Cursor → Result Cursor Fault
+checked m d p c = cond (not (eqb m 1) && eqb c.number d) (Err (fault NotCanonical p)) (Ok c)
 
 -- the tags of n items ascend, any two
 abbrev pub TagsAscend : (items : List ℕ) → (first n : ℕ) → Type 0

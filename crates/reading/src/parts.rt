@@ -12,7 +12,8 @@ ghost use Rattle.octets.specs.Presence.{bit_at};
 ghost use Rattle.reading.specs.Parts.{checked};
 ghost use Rattle.reading.specs.Members.{member_row, member_mark};
 
-use kinds::cursor::{Cursor, Read, got, refuse};
+use kinds::cursor::Cursor;
+use octets::faults::{Cause, Fault};
 use octets::nodes::put_node;
 use octets::presence::{is_present, low_bits_clear};
 use table::words::{component_default, component_mark, component_row, row_kind};
@@ -57,15 +58,20 @@ pub fn read_missing(
     count: usize,
     used: usize,
     nodes: &mut [u64],
-) -> Read
+) -> Result<Cursor, Fault>
     requires { at ≤ length msg.now }
     ensures { (b : List ℕ) → Ran msg.now (counted node_limit (length msg.now) (message (drop at msg.now) count) (λ s. got (node kind number [] no_values) s)) at count used nodes.old b nodes.new b result }
 {
     if 4096 <= count {
-        return refuse(10, at);
+        return Err(Cause::Nodes.at(at));
     }
     put_node(nodes, count, kind, number);
-    got(at, count + 1, used, number)
+    Ok(Cursor {
+        at,
+        count: count + 1,
+        used,
+        number,
+    })
 }
 
 // The row of a group's member: that of item i where members are listed.
@@ -125,14 +131,14 @@ pub fn is_default(items: &[u64], i: usize, mark: u64, number: u64) -> bool
 }
 
 // A component that is carried must not equal its DEFAULT (31.9).
-pub fn check_default(mark: u64, default: u64, place: usize, c: Cursor) -> Read
+pub fn check_default(mark: u64, default: u64, place: usize, c: Cursor) -> Result<Cursor, Fault>
     ensures { result ≡ checked mark «default» place c }
 {
     if mark == 1 {
-        return Read::Got(c);
+        return Ok(c);
     }
     if c.number == default {
-        return refuse(6, place);
+        return Err(Cause::NotCanonical.at(place));
     }
-    Read::Got(c)
+    Ok(c)
 }

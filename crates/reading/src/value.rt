@@ -15,9 +15,9 @@ use crate::parts::{
     read_missing,
 };
 use crate::tags::find_tag;
-use kinds::cursor::{Read, got, refuse};
+use kinds::cursor::Cursor;
 use kinds::leaf::{read_scalar, read_string};
-use octets::answers::{ReadNumber, ReadQuantity, ReadTag};
+use octets::faults::{Cause, Fault};
 use octets::nodes::put_node;
 use octets::tags::read_tag;
 use octets::variable::read_quantity;
@@ -36,7 +36,7 @@ pub fn read_value(
     used: usize,
     nodes: &mut [u64],
     contents: &mut [u8],
-) -> Read
+) -> Result<Cursor, Fault>
     requires { SoundTable rows.now items.now × (row < length rows.now / row_width) × (at ≤ length msg.now) × (used ≤ at) × (length msg.now ≤ 65535) }
     ensures { Ran msg.now (read node_limit (type_of rows.now items.now row) (length msg.now) (message (drop at msg.now) count)) at count used nodes.old contents.old nodes.new contents.new result }
 {
@@ -79,20 +79,21 @@ pub fn read_members(
     used: usize,
     nodes: &mut [u64],
     contents: &mut [u8],
-) -> Read
+) -> Result<Cursor, Fault>
     requires { SoundTable rows.now items.now × (above ≤ length rows.now / row_width) × Members rows.now items.now above inner listed first bit n × (pre ≤ length msg.now) × (at ≤ length msg.now) × (used ≤ at) × (length msg.now ≤ 65535) }
     ensures { RanAll msg.now (members rows.now items.now msg.now inner listed pre n first bit (message (drop at msg.now) count)) at count used nodes.old contents.old nodes.new contents.new result }
 {
-    let mut p = at;
-    let mut c = count;
-    let mut u = used;
-    let mut x = 0;
+    let mut reached = Cursor {
+        at,
+        count,
+        used,
+        number: 0,
+    };
     let mut b = bit;
-    let mut i = 0; // members read
-    while i < n {
+    for i in 0..n {
         let mark = member_mark(items, listed, first + i);
         let row = member_row(items, inner, listed, first + i);
-        match read_member(
+        reached = read_member(
             rows,
             items,
             above,
@@ -102,26 +103,15 @@ pub fn read_members(
             msg,
             pre,
             b,
-            p,
-            c,
-            u,
+            reached.at,
+            reached.count,
+            reached.used,
             nodes,
             contents,
-        ) {
-            Read::Got(next) => {
-                p = next.at;
-                c = next.count;
-                u = next.used;
-                x = next.number;
-            }
-            Read::Refused(f) => {
-                return Read::Refused(f);
-            }
-        }
+        )?;
         b += bit_of(mark);
-        i += 1;
     }
-    got(p, c, u, x)
+    Ok(reached)
 }
 
 // One member: a component with presence bit b of the preamble at `pre`, its value or the node that stands for it.
@@ -141,7 +131,7 @@ fn read_member(
     used: usize,
     nodes: &mut [u64],
     contents: &mut [u8],
-) -> Read
+) -> Result<Cursor, Fault>
     requires { SoundTable rows.now items.now × (above ≤ length rows.now / row_width) × Member rows.now items.now above row mark i b × (pre ≤ length msg.now) × (at ≤ length msg.now) × (used ≤ at) × (length msg.now ≤ 65535) }
     ensures { Ran msg.now (member_at rows.now items.now msg.now mark i row pre b (message (drop at msg.now) count)) at count used nodes.old contents.old nodes.new contents.new result }
 {
@@ -157,16 +147,12 @@ fn read_member(
             nodes,
         );
     }
-    match read_row(rows, items, row, msg, at, count, used, nodes, contents) {
-        Read::Refused(f) => Read::Refused(f),
-        Read::Got(d) => {
-            // a component equal to its DEFAULT is absent (31.9)
-            if is_default(items, i, mark, d.number) {
-                return refuse(6, at);
-            }
-            got(d.at, d.count, d.used, d.number)
-        }
+    let d = read_row(rows, items, row, msg, at, count, used, nodes, contents)?;
+    // a component equal to its DEFAULT is absent (31.9)
+    if is_default(items, i, mark, d.number) {
+        return Err(Cause::NotCanonical.at(at));
     }
+    Ok(d)
 }
 
 // A value by its row's kind.
@@ -181,23 +167,24 @@ fn read_row(
     used: usize,
     nodes: &mut [u64],
     contents: &mut [u8],
-) -> Read
+) -> Result<Cursor, Fault>
     requires { SoundTable rows.now items.now × (row < length rows.now / row_width) × (at ≤ length msg.now) × (used ≤ at) × (length msg.now ≤ 65535) }
     ensures { Ran msg.now (read node_limit (type_of rows.now items.now row) (length msg.now) (message (drop at msg.now) count)) at count used nodes.old contents.old nodes.new contents.new result }
 {
     // a node is counted before any octet of its value is looked at
     if 4096 <= count {
-        return refuse(10, at);
+        return Err(Cause::Nodes.at(at));
     }
     let kind = row_kind(rows, row);
     if kind < 7 {
-        return match read_scalar(rows, items, row, msg, at) {
-            ReadNumber::Refused(f) => Read::Refused(f),
-            ReadNumber::Got(x) => {
-                put_node(nodes, count, kind, x.value);
-                got(x.next, count + 1, used, x.value)
-            }
-        };
+        let x = read_scalar(rows, items, row, msg, at)?;
+        put_node(nodes, count, kind, x.value);
+        return Ok(Cursor {
+            at: x.next,
+            count: count + 1,
+            used,
+            number: x.value,
+        });
     }
     if kind < 10 {
         return read_string(rows, items, row, msg, at, count, used, nodes, contents);
@@ -223,7 +210,7 @@ fn read_sequence(
     used: usize,
     nodes: &mut [u64],
     contents: &mut [u8],
-) -> Read
+) -> Result<Cursor, Fault>
     requires { SoundTable rows.now items.now × (row < length rows.now / row_width) × (at ≤ length msg.now) × (used ≤ at) × (count < 4096) × (row_kind rows.now row ≡ 10) × (length msg.now ≤ 65535) }
     ensures { Ran msg.now (inside_at (type_of rows.now items.now row) msg.now at count) at count used nodes.old contents.old nodes.new contents.new result }
 {
@@ -232,13 +219,13 @@ fn read_sequence(
     put_node(nodes, count, 10, n as u64);
     let bits = count_marked(items, first, n);
     if msg.len() - at < (bits + 7) / 8 {
-        return refuse(5, at);
+        return Err(Cause::Short.at(at));
     }
     // the unused bits are 0 (16.2.4)
     if !is_padded(msg, at, bits) {
-        return refuse(6, at);
+        return Err(Cause::NotCanonical.at(at));
     }
-    match read_members(
+    let d = read_members(
         rows,
         items,
         row,
@@ -254,10 +241,11 @@ fn read_sequence(
         used,
         nodes,
         contents,
-    ) {
-        Read::Refused(f) => Read::Refused(f),
-        Read::Got(d) => got(d.at, d.count, d.used, n as u64),
-    }
+    )?;
+    Ok(Cursor {
+        number: n as u64,
+        ..d
+    })
 }
 
 // Kind 11: quantity, occurrences (17.1).
@@ -272,39 +260,32 @@ fn read_sequence_of(
     used: usize,
     nodes: &mut [u64],
     contents: &mut [u8],
-) -> Read
+) -> Result<Cursor, Fault>
     requires { SoundTable rows.now items.now × (row < length rows.now / row_width) × (at ≤ length msg.now) × (used ≤ at) × (count < 4096) × (row_kind rows.now row ≡ 11) × (length msg.now ≤ 65535) }
     ensures { Ran msg.now (inside_at (type_of rows.now items.now row) msg.now at count) at count used nodes.old contents.old nodes.new contents.new result }
 {
     let inner = component_row(items, row_first(rows, row) as usize) as usize;
-    match read_quantity(msg, at, at) {
-        ReadQuantity::Refused(f) => Read::Refused(f),
-        ReadQuantity::Got(q) => {
-            let many = q.many;
-            let n = many.0;
-            put_node(nodes, count, 11, n);
-            match read_members(
-                rows,
-                items,
-                row,
-                inner,
-                false,
-                0,
-                n as usize,
-                msg,
-                at,
-                0,
-                q.next,
-                count + 1,
-                used,
-                nodes,
-                contents,
-            ) {
-                Read::Refused(f) => Read::Refused(f),
-                Read::Got(d) => got(d.at, d.count, d.used, n),
-            }
-        }
-    }
+    let q = read_quantity(msg, at, at)?;
+    let n = q.many.0;
+    put_node(nodes, count, 11, n);
+    let d = read_members(
+        rows,
+        items,
+        row,
+        inner,
+        false,
+        0,
+        n as usize,
+        msg,
+        at,
+        0,
+        q.next,
+        count + 1,
+        used,
+        nodes,
+        contents,
+    )?;
+    Ok(Cursor { number: n, ..d })
 }
 
 // Kind 12: tag, the chosen alternative (20.1).
@@ -319,41 +300,38 @@ fn read_choice(
     used: usize,
     nodes: &mut [u64],
     contents: &mut [u8],
-) -> Read
+) -> Result<Cursor, Fault>
     requires { SoundTable rows.now items.now × (row < length rows.now / row_width) × (at ≤ length msg.now) × (used ≤ at) × (count < 4096) × (row_kind rows.now row ≡ 12) × (length msg.now ≤ 65535) }
     ensures { Ran msg.now (inside_at (type_of rows.now items.now row) msg.now at count) at count used nodes.old contents.old nodes.new contents.new result }
 {
     let first = row_first(rows, row) as usize;
     let n = row_count(rows, row) as usize;
-    match read_tag(msg, at, at) {
-        ReadTag::Refused(f) => Read::Refused(f),
-        ReadTag::Got(g) => {
-            let k = find_tag(items, first, n, g.class, g.number);
-            // a tag of the type
-            if n <= k {
-                return refuse(7, at);
-            }
-            put_node(nodes, count, 12, k as u64);
-            match read_members(
-                rows,
-                items,
-                row,
-                alternative_row(items, first + k) as usize,
-                false,
-                0,
-                1,
-                msg,
-                at,
-                0,
-                g.next,
-                count + 1,
-                used,
-                nodes,
-                contents,
-            ) {
-                Read::Refused(f) => Read::Refused(f),
-                Read::Got(d) => got(d.at, d.count, d.used, k as u64),
-            }
-        }
+    let g = read_tag(msg, at, at)?;
+    let k = find_tag(items, first, n, g.class, g.number);
+    // a tag of the type
+    if n <= k {
+        return Err(Cause::NotAllowed.at(at));
     }
+    put_node(nodes, count, 12, k as u64);
+    let d = read_members(
+        rows,
+        items,
+        row,
+        alternative_row(items, first + k) as usize,
+        false,
+        0,
+        1,
+        msg,
+        at,
+        0,
+        g.next,
+        count + 1,
+        used,
+        nodes,
+        contents,
+    )?;
+    Ok(Cursor {
+        number: k as u64,
+        ..d
+    })
 }

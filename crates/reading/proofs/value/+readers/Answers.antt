@@ -4,6 +4,7 @@
 -- The answer of `read_row` is the outcome of reading a value: a node too many, or by the row's kind.
 -- The answer of `read_sequence` is the outcome of reading a SEQUENCE, its node counted: one law for each return.
 -- The answer of `read_sequence_of` is the outcome of reading a SEQUENCE OF, its node counted: one law for each return.
+use Rattle.std.proofs.lemmas.Result.{err_from_is_err_and}
 use Prim.Native.Nat.{◌<◌}
 use native.Mathlib.Omega.{arith}
 use Rattle.x696.proofs.TableRows.{choice_row, kind_known, sequence_row, sequence_of_row}
@@ -34,8 +35,8 @@ pub read_choice-returns-then-n-k : goal.read_choice-returns-then-n-k
 read_choice-returns-then-n-k t c =
     let sound = c.requires.0.row c.args.row c.requires.1 in
     Ran.ran_refused (Alternatives.tag_unknown _ _ _ _ _ _ c.requires.2 sound c.requires.5
-    c.read_tag.ensures _ _ _ _ c.in-Got.is c.row_first-first.ensures c.row_count-n.ensures
-    c.find_tag-k.ensures.0 c.if-n-k.true) c.refuse.ensures
+    c.read_tag.ensures _ _ _ _ c.in_ok-g.was c.row_first-first.ensures c.row_count-n.ensures
+    c.find_tag-k.ensures.0 c.if-n-k.true) c.at.ensures
 
 pub read_choice-overflow_add-first : goal.read_choice-overflow_add-first
 read_choice-overflow_add-first t c =
@@ -53,7 +54,7 @@ pub read_choice-read_members-requires : goal.read_choice-read_members-requires
 read_choice-read_members-requires t c =
     let sound = c.requires.0.row c.args.row c.requires.1 in
     let row = choice_row _ _ _ sound c.requires.5 in
-    let y = c.read_tag.ensures.went _ c.in-Got.is in
+    let y = c.read_tag.ensures.went _ c.in_ok-g.was in
     let lt : c.alternative_row.result < c.args.row = rw (c.alternative_row.ensures, c.row_first-first.ensures)
     (row.alternative c.find_tag-k.result (rw (← c.row_count-n.ensures) c.if-n-k.false)).lower in (
       omega arith,
@@ -68,30 +69,32 @@ read_choice-read_members-requires t c =
       ),
     )
 
-pub read_choice-returns-in-Refused : goal.read_choice-returns-in-Refused
-read_choice-returns-in-Refused t c =
-    let sound = c.requires.0.row c.args.row c.requires.1 in
+pub read_choice-returns-in_err-g : goal.read_choice-returns-in_err-g
+read_choice-returns-in_err-g t c =
+    let p = err_from_is_err_and c.from_residual.result c.from_residual.ensures.1 in
+    rw (p.1, p.2) (let sound = c.requires.0.row c.args.row c.requires.1 in
     Ran.ran_fault _ (Alternatives.tag_stops _ _ _ _ _ _ c.requires.2 sound c.requires.5
-    c.read_tag.ensures _ c.in-Refused.is)
+    c.read_tag.ensures _ c.in_err-g.was))
 
-pub read_choice-returns-in-Refused-read_members : goal.read_choice-returns-in-Refused-read_members
-read_choice-returns-in-Refused-read_members t c =
-    let sound = c.requires.0.row c.args.row c.requires.1 in
+pub read_choice-returns-in_err-d : goal.read_choice-returns-in_err-d
+read_choice-returns-in_err-d t c =
+    let p = err_from_is_err_and c.from_residual-in_err-d.result c.from_residual-in_err-d.ensures.1 in
+    rw (p.1, p.2) (let sound = c.requires.0.row c.args.row c.requires.1 in
     let one = Chains.alone_ran _ (Laws.alone_members _ _ _ _ _ _ _) c.read_members.ensures in
     Ran.ran_fault _ (Alternatives.chosen_stops _ _ _ _ _ _ c.requires.2 sound c.requires.5
-    c.read_tag.ensures _ _ _ _ c.in-Got.is c.row_first-first.ensures c.row_count-n.ensures
+    c.read_tag.ensures _ _ _ _ c.in_ok-g.was c.row_first-first.ensures c.row_count-n.ensures
     c.find_tag-k.ensures.0
-    c.if-n-k.false c.alternative_row.ensures (one.stopped _ c.in-Refused-read_members.is))
+    c.if-n-k.false c.alternative_row.ensures (one.stopped _ c.in_err-d.was)))
 
-pub read_choice-returns-in-Got-read_members : goal.read_choice-returns-in-Got-read_members
-read_choice-returns-in-Got-read_members t c =
+pub read_choice-returns : goal.read_choice-returns
+read_choice-returns t c =
     let sound = c.requires.0.row c.args.row c.requires.1 in
     let one = Chains.alone_ran _ (Laws.alone_members _ _ _ _ _ _ _) c.read_members.ensures in
     Alternatives.chosen_goes _ _ _ _ _ _ c.requires.2 sound c.requires.5
-    c.read_tag.ensures _ _ _ _ c.in-Got.is c.row_first-first.ensures c.row_count-n.ensures
+    c.read_tag.ensures _ _ _ _ c.in_ok-g.was c.row_first-first.ensures c.row_count-n.ensures
     c.find_tag-k.ensures.0
-    c.if-n-k.false c.alternative_row.ensures _ c.put_node.ensures (one.went _ c.in-Got-read_members.is)
-    c.got.ensures
+    c.if-n-k.false c.alternative_row.ensures _ c.put_node.ensures (one.went _ c.in_ok-d.was)
+    refl
 
 pub read_member-is_missing-requires : goal.read_member-is_missing-requires
 read_member-is_missing-requires t c = λ h. (c.requires.3, (c.requires.2.marked h).4)
@@ -129,26 +132,26 @@ read_member-returns-then-is_default t c =
     let below = below_known 8 c.args.msg.now (λ i. (c.type_inv.msg i).fits) in
     OneMember.member_default_lem _ _ _ _ _ _ _ _ _ _ _ c.requires.4 c.requires.2 c.is_missing.ensures
     c.if-is_missing.false
-    (c.read_row.ensures.went _ c.in-Got.is) below c.is_default.ensures c.if-is_default.true
-    c.refuse.ensures
+    (c.read_row.ensures.went _ c.in_ok-d.was) below c.is_default.ensures c.if-is_default.true
+    c.at.ensures
 
-pub read_member-returns-in-Refused : goal.read_member-returns-in-Refused
-read_member-returns-in-Refused t c =
-    Ran.ran_fault _ (OneMember.member_stops _ _ _ _ _ _ _ _ _ _ _ c.requires.4 c.requires.2
+pub read_member-returns-in_err-d : goal.read_member-returns-in_err-d
+read_member-returns-in_err-d t c =
+    let p = err_from_is_err_and c.from_residual.result c.from_residual.ensures.1 in
+    rw (p.1, p.2) (Ran.ran_fault _ (OneMember.member_stops _ _ _ _ _ _ _ _ _ _ _ c.requires.4 c.requires.2
     c.is_missing.ensures c.if-is_missing.false
-    (c.read_row.ensures.stopped _ c.in-Refused.is))
+    (c.read_row.ensures.stopped _ c.in_err-d.was)))
 
-pub read_member-returns-else-is_default : goal.read_member-returns-else-is_default
-read_member-returns-else-is_default t c =
+pub read_member-returns : goal.read_member-returns
+read_member-returns t c =
     let below = below_known 8 c.args.msg.now (λ i. (c.type_inv.msg i).fits) in
     OneMember.member_goes _ _ _ _ _ _ _ _ _ _ _ c.requires.4 c.requires.2 c.is_missing.ensures
     c.if-is_missing.false
-    (c.read_row.ensures.went _ c.in-Got.is) below c.is_default.ensures c.if-is_default.false
-    c.got.ensures
+    (c.read_row.ensures.went _ c.in_ok-d.was) below c.is_default.ensures c.if-is_default.false
+    refl
 
 pub read_members-loop-i-init : goal.read_members-loop-i-init
 read_members-loop-i-init t c = (
-  search rules,
   refl,
   refl,
   (c.requires.4, c.requires.5, omega arith, Chains.chain_start (Laws.members_start _ _ _ _ _ _ _ _ _ _)),
@@ -187,79 +190,77 @@ read_members-overflow_add-first-in-loop-i-2 t c =
 pub read_members-read_member-requires : goal.read_members-read_member-requires
 read_members-read_member-requires t c =
     let known = Laws.member_known c.requires.2 c.loop-i.i c.loop-i-test.true _
-    c.loop-i.invariant.3.2 _ _ c.member_mark-mark.ensures c.member_row-row.ensures in (
+    c.loop-i.invariant.2.2 _ _ c.member_mark-mark.ensures c.member_row-row.ensures in (
       omega arith,
       (
         c.requires.0,
         c.requires.1,
         known,
         c.requires.3,
-        c.loop-i.invariant.3.0,
-        c.loop-i.invariant.3.1,
+        c.loop-i.invariant.2.0,
+        c.loop-i.invariant.2.1,
         c.requires.6,
       ),
     )
 
-pub read_members-returns-in-Refused : goal.read_members-returns-in-Refused
-read_members-returns-in-Refused t c =
-    Chains.all_stopped _ (Chains.chain_stop c.loop-i.invariant.3.3 _ (Laws.members_step _ _ _ _ _ _ _ _ _ _ _ _ _ _
+pub read_members-returns-in_err-reached : goal.read_members-returns-in_err-reached
+read_members-returns-in_err-reached t c =
+    let p = err_from_is_err_and c.from_residual.result c.from_residual.ensures.1 in
+    rw (p.1, p.2) (Chains.all_stopped _ (Chains.chain_stop c.loop-i.invariant.2.3 _ (Laws.members_step _ _ _ _ _ _ _ _ _ _ _ _ _ _
     c.loop-i-test.true c.member_mark-mark.ensures c.member_row-row.ensures refl)
-    (c.read_member.ensures.stopped _ c.in-Refused.is))
+    (c.read_member.ensures.stopped _ c.in_err-reached.was)))
 
 pub read_members-overflow_add-b : goal.read_members-overflow_add-b
 read_members-overflow_add-b t c =
     omega (
       arith,
-      c.loop-i.invariant.3.2,
+      c.loop-i.invariant.2.2,
       c.bit_of-b.ensures.1,
       Laws.bit_fits c.requires.2 c.loop-i.i c.loop-i-test.true 18446744073709551615 (omega arith)
           (omega arith),
     )
 
-pub read_members-overflow_add-i : goal.read_members-overflow_add-i
-read_members-overflow_add-i t c = omega (arith, c.loop-i-test.true)
-
 pub read_members-loop-i-preserved : goal.read_members-loop-i-preserved
 read_members-loop-i-preserved t c = (
   search rules,
   search rules,
-  search rules,
-  let g = c.read_member.ensures.went _ c.in-Got.is in (
+  let g = c.read_member.ensures.went _ c.in_ok-reached.was in (
     g.inside,
-    omega (arith, g.used, g.ahead, c.loop-i.invariant.3.1),
-    omega (arith, c.loop-i.invariant.3.2, c.bit_of-b.ensures.1),
-    Chains.chain_turn c.loop-i.invariant.3.3 _ (Laws.members_step _ _ _ _ _ _ _ _ _ _ _ _ _ _
+    omega (arith, g.used, g.ahead, c.loop-i.invariant.2.1),
+    omega (arith, c.loop-i.invariant.2.2, c.bit_of-b.ensures.1),
+    Chains.chain_turn c.loop-i.invariant.2.3 _ (Laws.members_step _ _ _ _ _ _ _ _ _ _ _ _ _ _
         c.loop-i-test.true c.member_mark-mark.ensures c.member_row-row.ensures c.bit_of-b.ensures.0) g,
   ),
 )
 
 pub read_members-returns : goal.read_members-returns
 read_members-returns t c =
-    Chains.chain_done c.loop-i.invariant.3.3 _ (Laws.members_end _ _ _ _ _ _ _ _ _ _ _ c.loop-i-test.false)
-    c.loop-i.invariant.3.0 c.got.ensures
+    Chains.chain_done c.loop-i.invariant.2.3 _ (Laws.members_end _ _ _ _ _ _ _ _ _ _ _ c.loop-i-test.false)
+    c.loop-i.invariant.2.0 refl
 
 pub read_row-returns-then-count-ge4096 : goal.read_row-returns-then-count-ge4096
 read_row-returns-then-count-ge4096 t c =
     Ran.ran_refused (Elements.value_full (type_of c.args.rows.now c.args.items.now c.args.row)
     c.args.msg.now c.args.at c.args.count c.requires.2 c.if-count-ge4096.true)
-    c.refuse.ensures
+    c.at.ensures
 
 pub read_row-read_scalar-requires : goal.read_row-read_scalar-requires
 read_row-read_scalar-requires t c =
     let sound = c.requires.0.row c.args.row c.requires.1 in
     (c.requires.1, sound, omega (arith, c.row_kind-kind.ensures), c.requires.2)
 
-pub read_row-returns-in-Refused : goal.read_row-returns-in-Refused
-read_row-returns-in-Refused t c =
-    Ran.ran_fault _ (Elements.value_inside _ _ _ _ c.if-count-ge4096.false ∙ (c.read_scalar.ensures
-    c.args.count).stopped _ c.in-Refused.is)
+pub read_row-returns-in_err-x : goal.read_row-returns-in_err-x
+read_row-returns-in_err-x t c =
+    let p = err_from_is_err_and c.from_residual.result c.from_residual.ensures.1 in
+    rw (p.1, p.2) (Ran.ran_fault _ (Elements.value_inside _ _ _ _ c.if-count-ge4096.false ∙ (c.read_scalar.ensures
+    c.args.count).stopped _ c.in_err-x.was))
 
-pub read_row-returns-in-Got : goal.read_row-returns-in-Got
-read_row-returns-in-Got t c =
+pub read_row-returns-then-kind-lt7 : goal.read_row-returns-then-kind-lt7
+read_row-returns-then-kind-lt7 t c =
     Ran.ran_by (Elements.value_inside _ _ _ _ c.if-count-ge4096.false)
     (Scalars.scalar_stored _ _ (Scalars.scalar_by refl c.row_kind-kind.ensures (c.read_scalar.ensures
     c.args.count)) _
-    c.in-Got.is c.put_node.ensures c.got.ensures)
+    c.in_ok-x.was c.put_node.ensures refl)
 
 pub read_row-read_string-requires : goal.read_row-read_string-requires
 read_row-read_string-requires t c = (
@@ -353,7 +354,7 @@ read_sequence-returns-then-msg-at t c =
     let sound = c.requires.0.row c.args.row c.requires.1 in
     Ran.ran_refused (Sequences.preamble_stops _ _ _ _ _ _ c.requires.2 sound c.requires.5 _ _ _
     c.row_first-first.ensures c.row_count-n.ensures c.count_marked-bits.ensures.0
-    (Sequences.preamble_short _ _ _ c.requires.2 c.if-msg-at.true)) c.refuse.ensures
+    (Sequences.preamble_short _ _ _ c.requires.2 c.if-msg-at.true)) c.at.ensures
 
 pub read_sequence-is_padded-requires : goal.read_sequence-is_padded-requires
 read_sequence-is_padded-requires t c =
@@ -376,7 +377,7 @@ read_sequence-returns-then-not-is_padded t c =
     Ran.ran_refused (Sequences.preamble_stops _ _ _ _ _ _ c.requires.2 sound c.requires.5 _ _ _
     c.row_first-first.ensures c.row_count-n.ensures c.count_marked-bits.ensures.0
     (Sequences.preamble_padded _ _ _ c.requires.2 c.if-msg-at.false _ c.is_padded.ensures
-    c.if-not-is_padded.true)) c.refuse-then-not-is_padded.ensures
+    c.if-not-is_padded.true)) c.at-then-not-is_padded.ensures
 
 pub read_sequence-overflow_add-bits-2 : goal.read_sequence-overflow_add-bits-2
 read_sequence-overflow_add-bits-2 t c =
@@ -409,26 +410,27 @@ read_sequence-read_members-requires t c =
       ),
     )
 
-pub read_sequence-returns-in-Refused : goal.read_sequence-returns-in-Refused
-read_sequence-returns-in-Refused t c =
-    let sound = c.requires.0.row c.args.row c.requires.1 in
+pub read_sequence-returns-in_err-d : goal.read_sequence-returns-in_err-d
+read_sequence-returns-in_err-d t c =
+    let p = err_from_is_err_and c.from_residual.result c.from_residual.ensures.1 in
+    rw (p.1, p.2) (let sound = c.requires.0.row c.args.row c.requires.1 in
     let below = below_known 8 c.args.msg.now (λ i. (c.type_inv.msg i).fits) in
     let is = Laws.sequence_members _ _ _ _ _ _ c.requires.2 sound c.requires.5 _ _ _ 0
     c.row_first-first.ensures
     c.row_count-n.ensures c.count_marked-bits.ensures.0 below (Sequences.preamble_got _ _ _ c.requires.2
     c.if-msg-at.false _ c.is_padded.ensures c.if-not-is_padded.false) in
-    Ran.ran_fault _ (Chains.group_stops 10 _ is _ c.read_members.ensures _ c.in-Refused.is)
+    Ran.ran_fault _ (Chains.group_stops 10 _ is _ c.read_members.ensures _ c.in_err-d.was))
 
-pub read_sequence-returns-in-Got : goal.read_sequence-returns-in-Got
-read_sequence-returns-in-Got t c =
+pub read_sequence-returns : goal.read_sequence-returns
+read_sequence-returns t c =
     let sound = c.requires.0.row c.args.row c.requires.1 in
     let below = below_known 8 c.args.msg.now (λ i. (c.type_inv.msg i).fits) in
     let is = Laws.sequence_members _ _ _ _ _ _ c.requires.2 sound c.requires.5 _ _ _ 0
     c.row_first-first.ensures
     c.row_count-n.ensures c.count_marked-bits.ensures.0 below (Sequences.preamble_got _ _ _ c.requires.2
     c.if-msg-at.false _ c.is_padded.ensures c.if-not-is_padded.false) in
-    Chains.group_goes 10 _ is _ c.read_members.ensures _ _ c.in-Got.is c.put_node.ensures
-    (omega arith) c.got.ensures
+    Chains.group_goes 10 _ is _ c.read_members.ensures _ _ c.in_ok-d.was c.put_node.ensures
+    (omega arith) refl
 
 pub read_sequence_of-component_row-inner-requires : goal.read_sequence_of-component_row-inner-requires
 read_sequence_of-component_row-inner-requires t c =
@@ -440,7 +442,7 @@ pub read_sequence_of-read_members-requires : goal.read_sequence_of-read_members-
 read_sequence_of-read_members-requires t c =
     let sound = c.requires.0.row c.args.row c.requires.1 in
     let row = sequence_of_row _ _ _ sound c.requires.5 in
-    let y = c.read_quantity.ensures.went _ c.in-Got.is in
+    let y = c.read_quantity.ensures.went _ c.in_ok-q.was in
     let lt : c.component_row-inner.result < c.args.row = rw (c.component_row-inner.ensures, c.row_first.ensures)
     row.lower in (
       omega arith,
@@ -455,26 +457,28 @@ read_sequence_of-read_members-requires t c =
       ),
     )
 
-pub read_sequence_of-returns-in-Refused : goal.read_sequence_of-returns-in-Refused
-read_sequence_of-returns-in-Refused t c =
-    let sound = c.requires.0.row c.args.row c.requires.1 in
+pub read_sequence_of-returns-in_err-q : goal.read_sequence_of-returns-in_err-q
+read_sequence_of-returns-in_err-q t c =
+    let p = err_from_is_err_and c.from_residual.result c.from_residual.ensures.1 in
+    rw (p.1, p.2) (let sound = c.requires.0.row c.args.row c.requires.1 in
     Ran.ran_fault _ (Elements.quantity_stops _ _ _ _ _ _ c.requires.2 sound c.requires.5
-    c.read_quantity.ensures _ c.in-Refused.is)
+    c.read_quantity.ensures _ c.in_err-q.was))
 
-pub read_sequence_of-returns-in-Refused-read_members : goal.read_sequence_of-returns-in-Refused-read_members
-read_sequence_of-returns-in-Refused-read_members t c =
+pub read_sequence_of-returns-in_err-d : goal.read_sequence_of-returns-in_err-d
+read_sequence_of-returns-in_err-d t c =
+    let p = err_from_is_err_and c.from_residual-in_err-d.result c.from_residual-in_err-d.ensures.1 in
+    rw (p.1, p.2) (let sound = c.requires.0.row c.args.row c.requires.1 in
+    let is = Laws.quantity_members _ _ _ _ _ _ c.requires.2 sound c.requires.5
+    c.read_quantity.ensures _ _ _ _
+    c.in_ok-q.was c.row_first.ensures c.component_row-inner.ensures in
+    Ran.ran_fault _ (Chains.group_stops 11 _ is _ c.read_members.ensures _ c.in_err-d.was))
+
+pub read_sequence_of-returns : goal.read_sequence_of-returns
+read_sequence_of-returns t c =
     let sound = c.requires.0.row c.args.row c.requires.1 in
     let is = Laws.quantity_members _ _ _ _ _ _ c.requires.2 sound c.requires.5
     c.read_quantity.ensures _ _ _ _
-    c.in-Got.is c.row_first.ensures c.component_row-inner.ensures in
-    Ran.ran_fault _ (Chains.group_stops 11 _ is _ c.read_members.ensures _ c.in-Refused-read_members.is)
-
-pub read_sequence_of-returns-in-Got-read_members : goal.read_sequence_of-returns-in-Got-read_members
-read_sequence_of-returns-in-Got-read_members t c =
-    let sound = c.requires.0.row c.args.row c.requires.1 in
-    let is = Laws.quantity_members _ _ _ _ _ _ c.requires.2 sound c.requires.5
-    c.read_quantity.ensures _ _ _ _
-    c.in-Got.is c.row_first.ensures c.component_row-inner.ensures in
-    let y = c.read_quantity.ensures.went _ c.in-Got.is in
-    Chains.group_goes 11 _ is _ c.read_members.ensures _ _ c.in-Got-read_members.is c.put_node.ensures y.ahead
-    c.got.ensures
+    c.in_ok-q.was c.row_first.ensures c.component_row-inner.ensures in
+    let y = c.read_quantity.ensures.went _ c.in_ok-q.was in
+    Chains.group_goes 11 _ is _ c.read_members.ensures _ _ c.in_ok-d.was c.put_node.ensures y.ahead
+    refl

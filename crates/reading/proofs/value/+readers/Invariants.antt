@@ -1,6 +1,6 @@
 -- The measures of the six readers: the row number falls at each descent; `read_members` and `read_member` are below the
 -- row bound `above`, the others at their own row. Invariant of the loop: what is left of the members is to the whole as
--- `Chain` says; measure: the members left.
+-- `Chain` says.
 use Prim.Native.Nat.{◌+◌, ◌*◌, ◌-◌, ◌≤◌}
 use mathlib.Core.Path.{◌≡◌}
 use lib.ListN.{length, drop}
@@ -28,10 +28,7 @@ abbrev pub decreases-read_sequence_of : goal.decreases-read_sequence_of
 decreases-read_sequence_of l = l.row * 4 + 2
 
 abbrev pub invariant-read_members-loop-i : goal.invariant-read_members-loop-i
-invariant-read_members-loop-i l = (l.i ≤ l.n) × (length l.nodes ≡ length l.initial.nodes) × (length l.contents ≡ length l.initial.contents)
-    × ((l.p ≤ length l.msg) × (l.u ≤ l.p) × (l.b ≤ l.bit + l.i)
-    × Chain (members l.rows l.items l.msg l.inner l.listed l.pre l.n l.first l.bit (message (drop l.initial.p l.msg) l.initial.c)) l.initial.p l.initial.c l.initial.u l.initial.nodes l.initial.contents
-    (members l.rows l.items l.msg l.inner l.listed l.pre (l.n - l.i) (l.first + l.i) l.b (message (drop l.p l.msg) l.c)) l.p l.c l.u l.x l.nodes l.contents)
-
-abbrev pub decreases-read_members-loop-i : goal.decreases-read_members-loop-i
-decreases-read_members-loop-i l = l.n - l.i
+invariant-read_members-loop-i l = (length l.nodes ≡ length l.initial.nodes) × (length l.contents ≡ length l.initial.contents)
+    × ((l.reached.at ≤ length l.msg) × (l.reached.used ≤ l.reached.at) × (l.b ≤ l.bit + l.i)
+    × Chain (members l.rows l.items l.msg l.inner l.listed l.pre l.n l.first l.bit (message (drop l.initial.reached.at l.msg) l.initial.reached.count)) l.initial.reached.at l.initial.reached.count l.initial.reached.used l.initial.nodes l.initial.contents
+    (members l.rows l.items l.msg l.inner l.listed l.pre (l.n - l.i) (l.first + l.i) l.b (message (drop l.reached.at l.msg) l.reached.count)) l.reached.at l.reached.count l.reached.used l.reached.number l.nodes l.contents)
