@@ -17,14 +17,15 @@ use Rattle.x696.proofs.TableLaws.{type_of_row}
 use Rattle.x696.proofs.TableRows.{kind_known}
 use Rattle.kinds.proofs.ByKind.{integer_type, octets_type}
 use Rattle.pens.specs.Flat.{Numbered, RowNumbered, Headed, RowHeaded, text_leaf}
-use Rattle.pens.specs.declared.written.Written.{Written}
-use Rattle.pens.specs.declared.written.Head.{Head}
+use Rattle.std.proofs.Common.{Result, Ok, Err}
+use Rattle.pens.specs.declared.head.Head.{Head}
+use Rattle.octets.specs.declared.faults.Cause.{Cause}
 
-pub numbered_row : {t : Ty} {k : Leaf} {n p : ℕ} {l l' : List ℕ} {r : Written} → t ≡ leaf k → Numbered k n p l l' r
+pub numbered_row : {t : Ty} {k : Leaf} {n p : ℕ} {l l' : List ℕ} {r : Result ℕ Cause} → t ≡ leaf k → Numbered k n p l l' r
     → RowNumbered t n p l l' r
 numbered_row {k = k} e w = record { kind = k; is = e; numbered = w }
 
-pub headed_row : {t : Ty} {k : Leaf} {cs : List ℕ} {n u p : ℕ} {l l' : List ℕ} {r : Head} → t ≡ leaf k
+pub headed_row : {t : Ty} {k : Leaf} {cs : List ℕ} {n u p : ℕ} {l l' : List ℕ} {r : Result Head Cause} → t ≡ leaf k
     → Headed k cs n u p l l' r → RowHeaded t cs n u p l l' r
 headed_row {k = k} e w = record { kind = k; is = e; headed = w }
 

@@ -18,8 +18,11 @@ use Rattle.x696.specs.Real.{binary32, binary64, real_octets, real_allowed}
 use Rattle.x696.specs.Value.{node, no_values}
 use Rattle.x696.specs.Leaf.{Leaf, boolean, null, integer, enumerated, real, real_kind, leaf_kind, encode_leaf}
 use Rattle.x696.specs.Walk.{Listed, walk_leaf}
-use Rattle.pens.specs.Flat.{number, Stored, Numbered}
-use Rattle.pens.specs.declared.written.Written.{Written}
+use Rattle.pens.specs.Flat.{Stored, Numbered}
+use Rattle.std.proofs.Common.{Result, Ok, Err}
+use Rattle.octets.specs.declared.faults.Cause.{Cause}
+use Rattle.octets.specs.declared.faults.Cause.TheVariants.{BadList, NotAllowed}
+use Rattle.octets.specs.Cause.{code_of}
 
 -- the number n of the kind k: whether its form is right (11) and whether it is allowed (7), and its octets
 pub record Checked (k : Leaf) (n : ℕ) (form good : Bool) (os : List ℕ) : Type 0 where
@@ -64,27 +67,30 @@ module _ {n m : ℕ} where
 
 -- ---- the answers
 module _ {k : Leaf} {n : ℕ} {form good : Bool} {os : List ℕ} (w : Checked k n form good os) {p : ℕ} {l l' : List ℕ}
-    {r : Written} where
-  stops : {j : ℕ} → (j ≡ 0 → ⊥) → r ≡ number j 0
-      → ((q : ℕ) (s : Listed) → walk_leaf k q n s ≡ refused j q) → Numbered k n p l l' r
-  stops z e h = rw e (record { walks = λ g. absurd (z g); stored = λ g. absurd (z g); stopped = λ g. h })
+  where
+    stops : (j : Cause) → ((q : ℕ) (s : Listed) → walk_leaf k q n s ≡ refused (code_of j) q) → Numbered k n p l l' (Err j)
+    stops j h = record {
+      went = λ to g. let z : ◌≡◌ {A = ℕ} 0 1 = cc in absurd (omega arith);
+      stopped = λ x g. let same : j ≡ x = cc in rw (← same) h;
+    }
 
-  pub misformed : form ≡ false → r ≡ number 11 0 → Numbered k n p l l' r
-  unfolding must
-  misformed f e = stops (λ z. omega arith) e (λ q s. w.is q s ∙ rw f)
-
-  module _ (f : form ≡ true) {y : Bool} (ey : y ≡ good) where
-    pub unallowed : y ≡ false → r ≡ number 7 0 → Numbered k n p l l' r
+    pub misformed : form ≡ false → Numbered k n p l l' (Err BadList)
     unfolding must
-    unallowed g e = stops (λ z. omega arith) e (λ q s. w.is q s ∙ rw (f, ← ey, g))
+    misformed f = stops BadList (λ q s. w.is q s ∙ rw f)
 
-    pub goes : y ≡ true → {to : ℕ} → Stored l l' p to os → r ≡ number 0 to → Numbered k n p l l' r
-    unfolding must
-    goes g s e = rw e (record {
-      walks = λ z q s. w.is q s ∙ rw (f, ← ey, g);
-      stored = λ z. rw w.octets s;
-      stopped = λ z. absurd (z refl);
-    })
+    module _ (f : form ≡ true) {y : Bool} (ey : y ≡ good) where
+      pub unallowed : y ≡ false → Numbered k n p l l' (Err NotAllowed)
+      unfolding must
+      unallowed g = stops NotAllowed (λ q s. w.is q s ∙ rw (f, ← ey, g))
+
+      pub goes : y ≡ true → {to : ℕ} → Stored l l' p to os → Numbered k n p l l' (Ok to)
+      unfolding must
+      goes g {to} s = record {
+        went = λ x h.
+            let same : to ≡ x = cc in
+            rw (← same) (record { walks = λ q s. w.is q s ∙ rw (f, ← ey, g); stored = rw w.octets s });
+        stopped = λ x h. let z : ◌≡◌ {A = ℕ} 0 1 = cc in absurd (omega arith);
+      }
 
 -- ---- octets stored
 module _ {l l' : List ℕ} {p : ℕ} where

@@ -18,8 +18,11 @@ use Rattle.x696.specs.Leaf.{Leaf, bit_string, leaf_kind, encode_leaf}
 use Rattle.x696.specs.Walk.{Listed, list_at, contents_at, walk_leaf}
 use Rattle.octets.proofs.CountedRuns.{length_run}
 use Rattle.octets.proofs.Stores.{sets_after}
-use Rattle.pens.specs.Flat.{head, Stored, Headed, text_leaf, text_head, bits_head}
-use Rattle.pens.specs.declared.written.Head.{Head}
+use Rattle.pens.specs.Flat.{Stored, Headed, text_leaf, text_head, bits_head}
+use Rattle.std.proofs.Common.{Result, Ok, Err}
+use Rattle.octets.specs.declared.faults.Cause.{Cause}
+use Rattle.octets.specs.declared.faults.Cause.TheVariants.{BadList, NotAllowed}
+use Rattle.octets.specs.Cause.{code_of}
 use Rattle.pens.proofs.Numbers.{stored_none, stored_nine}
 
 -- the string of the kind k with the number n, of which m contents octets are due: whether their unused bits are 0 (11),
@@ -99,46 +102,52 @@ module _ (cs ws : List ℕ) (u m q at : ℕ) (h : u ≤ length cs) where
 -- ---- the answers
 module _
     {k : Leaf} {n m : ℕ} {clear characters : List ℕ → Bool} {sized : Bool} {before : List ℕ}
-    (w : Tested k n m clear sized characters before) (cs : List ℕ) {u p : ℕ} {l l' : List ℕ} {r : Head}
+    (w : Tested k n m clear sized characters before) (cs : List ℕ) {u p : ℕ} {l l' : List ℕ}
     (h : u ≤ length cs)
   where
-    stops : {j : ℕ} → (j ≡ 0 → ⊥) → r ≡ head j 0 0
-        → ((q at : ℕ) (ws : List ℕ) → walk_leaf k q n (list_at ws (drop u cs) at) ≡ refused j q)
-        → Headed k cs n u p l l' r
-    stops z e g = rw e (record { went = λ y. absurd (z y); stopped = λ y. g })
+    stops : (j : Cause)
+        → ((q at : ℕ) (ws : List ℕ) → walk_leaf k q n (list_at ws (drop u cs) at) ≡ refused (code_of j) q)
+        → Headed k cs n u p l l' (Err j)
+    stops j g = record {
+      went = λ y e. let z : ◌≡◌ {A = ℕ} 0 1 = cc in absurd (omega arith);
+      stopped = λ x e. let same : j ≡ x = cc in rw (← same) g;
+    }
 
-    pub lacking : length cs - u < m → r ≡ head 11 0 0 → Headed k cs n u p l l' r
+    pub lacking : length cs - u < m → Headed k cs n u p l l' (Err BadList)
     unfolding next
-    lacking g e = stops (λ z. omega arith) e (λ q at ws. w.is q _ ∙ rw (contents_lack cs ws u m q at h g))
+    lacking g = stops BadList (λ q at ws. w.is q _ ∙ rw (contents_lack cs ws u m q at h g))
 
     module _ (g : m ≤ length cs - u) {x : Bool} (ex : x ≡ clear (take m (drop u cs))) where
-      pub unclear : x ≡ false → r ≡ head 11 0 0 → Headed k cs n u p l l' r
+      pub unclear : x ≡ false → Headed k cs n u p l l' (Err BadList)
       unfolding next must
-      unclear c e =
-          stops (λ z. omega arith) e (λ q at ws. w.is q _ ∙ rw (contents_there cs ws u m q at h g, ← ex, c))
+      unclear c =
+          stops BadList (λ q at ws. w.is q _ ∙ rw (contents_there cs ws u m q at h g, ← ex, c))
 
       module _ (c : x ≡ true) {y : Bool} (ey : y ≡ sized) where
-        pub unsized : y ≡ false → r ≡ head 7 0 0 → Headed k cs n u p l l' r
+        pub unsized : y ≡ false → Headed k cs n u p l l' (Err NotAllowed)
         unfolding next must
-        unsized s e =
-            stops (λ z. omega arith) e (λ q at ws. w.is q _ ∙ rw (contents_there cs ws u m q at h g, ← ex, c, ← ey, s))
+        unsized s =
+            stops NotAllowed (λ q at ws. w.is q _ ∙ rw (contents_there cs ws u m q at h g, ← ex, c, ← ey, s))
 
         module _ (s : y ≡ true) {z : Bool} (ez : z ≡ characters (take m (drop u cs))) where
-          pub strange : z ≡ false → r ≡ head 7 0 0 → Headed k cs n u p l l' r
+          pub strange : z ≡ false → Headed k cs n u p l l' (Err NotAllowed)
           unfolding next must
-          strange v e =
-              stops (λ z. omega arith) e
+          strange v =
+              stops NotAllowed
               (λ q at ws. w.is q _ ∙ rw (contents_there cs ws u m q at h g, ← ex, c, ← ey, s, ← ez, v))
 
-          pub begins : z ≡ true → {to : ℕ} → Stored l l' p to before → r ≡ head 0 m to → Headed k cs n u p l l' r
+          pub begins : z ≡ true → {to : ℕ} → Stored l l' p to before
+              → Headed k cs n u p l l' (Ok (record { filled = m; to = to }))
           unfolding next must
-          begins v b e = rw e (record {
-            went = λ y. record {
-              walks = λ q at ws. w.is q _ ∙ rw (contents_there cs ws u m q at h g, ← ex, c, ← ey, s, ← ez, v);
-              within = omega arith;
-              before = before;
-              octets = w.octets _ (length_run cs u m (omega arith));
-              stored = b;
-            };
-            stopped = λ y. absurd (y refl);
-          })
+          begins v {to} b = record {
+            went = λ y e.
+                let same : record { filled = m; to = to } ≡ y = cc in
+                rw (← same) (record {
+                  walks = λ q at ws. w.is q _ ∙ rw (contents_there cs ws u m q at h g, ← ex, c, ← ey, s, ← ez, v);
+                  within = omega arith;
+                  before = before;
+                  octets = w.octets _ (length_run cs u m (omega arith));
+                  stored = b;
+                });
+            stopped = λ y e. let z : ◌≡◌ {A = ℕ} 0 1 = cc in absurd (omega arith);
+          }

@@ -8,10 +8,10 @@ use Rattle.x696.specs.Value.{Val, node, node_width, only}
 use Rattle.x696.specs.Types.{Ty, leaf, sequence, sequence_of, choice, item_count}
 use Rattle.x696.specs.Read.{times}
 use Rattle.x696.specs.Walk.{Listed, list_at, walk_leaf, walk, walk_components, walk_alternative}
-use Rattle.octets.specs.declared.answers.Fault.{Fault}
+use Rattle.octets.specs.declared.faults.Fault.{Fault}
 use Rattle.pens.specs.declared.pen.Pen.{Pen}
-use Rattle.pens.specs.declared.pen.Wrote.{Wrote}
-use Rattle.pens.specs.declared.pen.Wrote.TheVariants.{Got, Refused}
+use Rattle.std.specs.Prelude.{Result, Ok, Err}
+use Rattle.octets.specs.Cause.{code_of}
 
 abbrev pub pen : (at used to : ℕ) → Pen
 pen n u p = record { at = n; used = u; to = p }
@@ -37,9 +37,9 @@ pub record Penned (ws cs : List ℕ) (o : Outcome Listed Val) (octets : Val → 
   pub stored : l' ≡ sets l p (octets what)
 
 pub record Put (ws cs : List ℕ) (o : Outcome Listed Val) (octets : Val → List ℕ) (n u p : ℕ) (l l' : List ℕ)
-    (r : Wrote) : Type 0 where
-  pub went : (c : Pen) → r ≡ Got c → Penned ws cs o octets n u p l l' c
-  pub stopped : (f : Fault) → r ≡ Refused f → o ≡ refused f.number f.place
+    (r : Result Pen Fault) : Type 0 where
+  pub went : (c : Pen) → r ≡ Ok c → Penned ws cs o octets n u p l l' c
+  pub stopped : (f : Fault) → r ≡ Err f → o ≡ refused (code_of f.cause) f.place
 
 -- a value behind its own node p, which is of the type's kind and has this number
 unfoldable pub walk_behind : Ty → (p number : ℕ) → Listed → Outcome Listed Val

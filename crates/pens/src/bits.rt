@@ -4,7 +4,8 @@ ghost use Rattle.x696.specs.Bits.{bit_octets};
 ghost use Rattle.x696.specs.Leaf.{bit_string};
 ghost use Rattle.pens.specs.Flat.{Headed, Stored, bits_head};
 
-use crate::written::{Head, head_put, head_refused};
+use crate::head::Head;
+use octets::faults::Cause;
 use octets::lengths::put_length;
 use octets::presence::low_bits_clear;
 use octets::units::{Bits, Octets, octets_of, unused_of};
@@ -35,24 +36,24 @@ pub fn begin_bits(
     used: usize,
     to: usize,
     out: &mut [u8],
-) -> Head
+) -> Result<Head, Cause>
     requires { (used ≤ length contents.now) × (length contents.now ≤ 65535) × (to < 2 ^ 40) }
     ensures { Headed (bit_string flags a b) contents.now n used to out.old out.new result }
 {
     let whole = octets_of(Bits(n));
     let filled = whole.0;
     if ((contents.len() - used) as u64) < filled {
-        return head_refused(11);
+        return Err(Cause::BadList);
     }
     // unused bits are 0 (13.2.2, 13.3.3)
     if !low_bits_clear(contents, used, filled as usize, unused_of(Bits(n)) as usize) {
-        return head_refused(11);
+        return Err(Cause::BadList);
     }
     if !is_sized(flags, a, b, n) {
-        return head_refused(7);
+        return Err(Cause::NotAllowed);
     }
-    head_put(
-        filled as usize,
-        put_bits_head(flags, a, b, Bits(n), to, out),
-    )
+    Ok(Head {
+        filled: filled as usize,
+        to: put_bits_head(flags, a, b, Bits(n), to, out),
+    })
 }

@@ -4,8 +4,8 @@ ghost use Rattle.x696.specs.Integer.{integer_form, form_octets};
 ghost use Rattle.x696.specs.Leaf.{integer};
 ghost use Rattle.pens.specs.Flat.{Numbered, Stored, form_width};
 
-use crate::written::{Written, number_put, number_refused};
 use kinds::widths::{signed_width, unsigned_width};
+use octets::faults::Cause;
 use octets::numbers::put_number;
 use octets::variable::{put_signed, put_unsigned};
 use table::bounds::{has_lower, has_upper, is_allowed, is_unsigned};
@@ -44,12 +44,19 @@ fn put_form(flags: u64, a: u64, b: u64, n: u64, to: usize, out: &mut [u8]) -> us
     }
 }
 
-pub fn write_integer(flags: u64, a: u64, b: u64, n: u64, to: usize, out: &mut [u8]) -> Written
+pub fn write_integer(
+    flags: u64,
+    a: u64,
+    b: u64,
+    n: u64,
+    to: usize,
+    out: &mut [u8],
+) -> Result<usize, Cause>
     requires { to < 2 ^ 40 }
     ensures { Numbered (integer flags a b) n to out.old out.new result }
 {
     if !is_allowed(flags, a, b, n) {
-        return number_refused(7);
+        return Err(Cause::NotAllowed);
     }
-    number_put(put_form(flags, a, b, n, to, out))
+    Ok(put_form(flags, a, b, n, to, out))
 }

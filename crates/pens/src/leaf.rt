@@ -8,13 +8,14 @@ ghost use Rattle.pens.specs.Put.{Put, listed_at, walk_behind, node_octets};
 ghost use Rattle.pens.specs.Flat.{RowNumbered, RowHeaded};
 
 use crate::bits::begin_bits;
+use crate::head::Head;
 use crate::integer::write_integer;
 use crate::listed::write_listed;
-use crate::pen::{Wrote, got, refuse};
+use crate::pen::Pen;
 use crate::plain::{write_boolean, write_null};
 use crate::real::{write_double, write_single};
 use crate::text::begin_text;
-use crate::written::{Head, Written};
+use octets::faults::{Cause, Fault};
 use octets::words::copy;
 use table::words::{row_a, row_b, row_count, row_first, row_flags, row_kind};
 
@@ -27,7 +28,7 @@ fn write_number(
     n: u64,
     to: usize,
     out: &mut [u8],
-) -> Written
+) -> Result<usize, Cause>
     requires { (row < length rows.now / row_width) × (row_sound rows.now items.now row ≡ true) × (kind ≡ row_kind rows.now row) × (kind < 7) × (to < 2 ^ 40) }
     ensures { RowNumbered (type_of rows.now items.now row) n to out.old out.new result }
 {
@@ -74,7 +75,7 @@ fn begin_string(
     used: usize,
     to: usize,
     out: &mut [u8],
-) -> Head
+) -> Result<Head, Cause>
     requires { (row < length rows.now / row_width) × (kind ≡ row_kind rows.now row) × (7 ≤ kind) × (kind < 10) × (used ≤ length contents.now) × (length contents.now ≤ 65535) × (to < 2 ^ 40) }
     ensures { RowHeaded (type_of rows.now items.now row) contents.now n used to out.old out.new result }
 {
@@ -98,22 +99,31 @@ pub fn write_leaf(
     used: usize,
     to: usize,
     out: &mut [u8],
-) -> Wrote
+) -> Result<Pen, Fault>
     requires { (row < length rows.now / row_width) × (row_sound rows.now items.now row ≡ true) × (row_kind rows.now row < 10) × (at < 4096) × (used ≤ length contents.now) × (length contents.now ≤ 65535) × (to ≤ 65536 + (at * node_octets + used)) }
     ensures { (ws : List ℕ) → suc at * node_width ≤ length ws → Put ws contents.now (walk_behind (type_of rows.now items.now row) at number (listed_at ws contents.now (suc at) used)) (λ v. encode (type_of rows.now items.now row) v) at used to out.old out.new result }
 {
     let kind = row_kind(rows, row);
+    // a fault is placed at the node
     if kind < 7 {
-        let w = write_number(rows, items, row, kind, number, to, out);
-        if w.fault != 0 {
-            return refuse(w.fault, at);
+        return match write_number(rows, items, row, kind, number, to, out) {
+            Ok(next) => Ok(Pen {
+                at: at + 1,
+                used,
+                to: next,
+            }),
+            Err(cause) => Err(cause.at(at)),
+        };
+    }
+    match begin_string(rows, items, row, kind, number, contents, used, to, out) {
+        Ok(head) => {
+            copy(contents, used, head.filled, out, head.to);
+            Ok(Pen {
+                at: at + 1,
+                used: used + head.filled,
+                to: head.to + head.filled,
+            })
         }
-        return got(at + 1, used, w.to);
+        Err(fault) => Err(fault.at(at)),
     }
-    let h = begin_string(rows, items, row, kind, number, contents, used, to, out);
-    if h.fault != 0 {
-        return refuse(h.fault, at);
-    }
-    copy(contents, used, h.filled, out, h.to);
-    got(at + 1, used + h.filled, h.to + h.filled)
 }

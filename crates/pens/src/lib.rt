@@ -3,6 +3,7 @@
 #![tactic(auto)]
 
 pub mod bits;
+pub mod head;
 pub mod integer;
 pub mod leaf;
 pub mod listed;
@@ -10,4 +11,3 @@ pub mod pen;
 pub mod plain;
 pub mod real;
 pub mod text;
-pub mod written;

@@ -5,8 +5,8 @@ ghost use Rattle.x696.specs.Table.{item_width, numbers_from};
 ghost use Rattle.table.specs.Orders.{Ascends};
 ghost use Rattle.pens.specs.Flat.{Numbered};
 
-use crate::written::{Written, number_put, number_refused};
 use octets::enumerated::put_enumerated;
+use octets::faults::Cause;
 use table::numbers::is_listed;
 
 pub fn write_listed(
@@ -16,12 +16,12 @@ pub fn write_listed(
     n: u64,
     to: usize,
     out: &mut [u8],
-) -> Written
+) -> Result<usize, Cause>
     requires { (to < 2 ^ 40) × (first + count ≤ length items.now / item_width) × Ascends items.now first count }
     ensures { Numbered (enumerated (numbers_from items.now first count)) n to out.old out.new result }
 {
     if !is_listed(items, first, count, n) {
-        return number_refused(7);
+        return Err(Cause::NotAllowed);
     }
-    number_put(put_enumerated(out, to, n))
+    Ok(put_enumerated(out, to, n))
 }

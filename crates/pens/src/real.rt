@@ -4,31 +4,31 @@ ghost use Rattle.x696.specs.Real.{binary32, binary64};
 ghost use Rattle.x696.specs.Leaf.{real};
 ghost use Rattle.pens.specs.Flat.{Numbered};
 
-use crate::written::{Written, number_put, number_refused};
 use kinds::real::{double_allowed, single_allowed};
+use octets::faults::Cause;
 use octets::numbers::put_number;
 
-pub fn write_single(bits: u64, to: usize, out: &mut [u8]) -> Written
+pub fn write_single(bits: u64, to: usize, out: &mut [u8]) -> Result<usize, Cause>
     requires { to < 2 ^ 40 }
     ensures { Numbered (real binary32) bits to out.old out.new result }
 {
     if 0xffff_ffff < bits {
-        return number_refused(11);
+        return Err(Cause::BadList);
     }
     if !single_allowed(bits) {
-        return number_refused(7);
+        return Err(Cause::NotAllowed);
     }
     put_number(out, to, 4, bits);
-    number_put(to + 4)
+    Ok(to + 4)
 }
 
-pub fn write_double(bits: u64, to: usize, out: &mut [u8]) -> Written
+pub fn write_double(bits: u64, to: usize, out: &mut [u8]) -> Result<usize, Cause>
     requires { to < 2 ^ 40 }
     ensures { Numbered (real binary64) bits to out.old out.new result }
 {
     if !double_allowed(bits) {
-        return number_refused(7);
+        return Err(Cause::NotAllowed);
     }
     put_number(out, to, 8, bits);
-    number_put(to + 8)
+    Ok(to + 8)
 }

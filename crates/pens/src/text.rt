@@ -4,7 +4,8 @@ ghost use Rattle.std.specs.Prelude.{◌≡◌, not, ◌||◌, ◌+◌, ◌^◌, 
 ghost use Rattle.x696.specs.String.{visible};
 ghost use Rattle.pens.specs.Flat.{Headed, Stored, text_leaf, text_head};
 
-use crate::written::{Head, head_put, head_refused};
+use crate::head::Head;
+use octets::faults::Cause;
 use octets::lengths::put_length;
 use octets::strings::is_visible;
 use octets::units::Octets;
@@ -43,18 +44,21 @@ pub fn begin_text(
     used: usize,
     to: usize,
     out: &mut [u8],
-) -> Head
+) -> Result<Head, Cause>
     requires { (used ≤ length contents.now) × (to < 2 ^ 40) }
     ensures { Headed (text_leaf shown flags a b) contents.now n used to out.old out.new result }
 {
     if ((contents.len() - used) as u64) < n {
-        return head_refused(11);
+        return Err(Cause::BadList);
     }
     if !is_sized(flags, a, b, n) {
-        return head_refused(7);
+        return Err(Cause::NotAllowed);
     }
     if !has_characters(shown, contents, used, n as usize) {
-        return head_refused(7);
+        return Err(Cause::NotAllowed);
     }
-    head_put(n as usize, put_text_head(flags, a, b, n, to, out))
+    Ok(Head {
+        filled: n as usize,
+        to: put_text_head(flags, a, b, n, to, out),
+    })
 }

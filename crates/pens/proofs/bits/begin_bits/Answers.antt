@@ -6,7 +6,7 @@ use Rattle.pens.proofs.bits.begin_bits.Goals as goal
 pub returns-then-contents-used : goal.returns-then-contents-used
 returns-then-contents-used c =
     lacking (bits_tested _ _ _ _ c.octets_of-whole.ensures refl) _
-    c.requires.0 c.if-contents-used.true c.head_refused.ensures
+    c.requires.0 c.if-contents-used.true
 
 pub returns-then-not-low_bits_clear : goal.returns-then-not-low_bits_clear
 returns-then-not-low_bits_clear c =
@@ -14,7 +14,7 @@ returns-then-not-low_bits_clear c =
     c.unused_of.ensures) _
     c.requires.0
     c.if-contents-used.false
-    c.low_bits_clear.ensures c.if-not-low_bits_clear.true c.head_refused-then-not-low_bits_clear.ensures
+    c.low_bits_clear.ensures c.if-not-low_bits_clear.true
 
 pub returns-then-not-is_sized : goal.returns-then-not-is_sized
 returns-then-not-is_sized c =
@@ -23,7 +23,6 @@ returns-then-not-is_sized c =
     c.if-contents-used.false
     c.low_bits_clear.ensures c.if-not-low_bits_clear.false
     c.is_sized.ensures c.if-not-is_sized.true
-    c.head_refused-then-not-is_sized.ensures
 
 pub returns : goal.returns
 returns c =
@@ -31,4 +30,4 @@ returns c =
     c.requires.0 c.if-contents-used.false
     c.low_bits_clear.ensures c.if-not-low_bits_clear.false
     c.is_sized.ensures c.if-not-is_sized.false
-    refl refl c.put_bits_head.ensures c.head_put.ensures
+    refl refl c.put_bits_head.ensures

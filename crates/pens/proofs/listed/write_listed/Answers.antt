@@ -6,9 +6,8 @@ use Rattle.pens.proofs.listed.write_listed.Goals as goal
 pub returns-then-not-is_listed : goal.returns-then-not-is_listed
 returns-then-not-is_listed c =
     unallowed (listed_checked _ _) refl c.is_listed.ensures c.if-not-is_listed.true
-    c.number_refused.ensures
 
 pub returns : goal.returns
 returns c =
     goes (listed_checked _ _) refl c.is_listed.ensures c.if-not-is_listed.false
-    (stored_nine c.put_enumerated.ensures) c.number_put.ensures
+    (stored_nine c.put_enumerated.ensures)

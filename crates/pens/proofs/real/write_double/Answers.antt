@@ -8,7 +8,7 @@ pub returns-then-not-double_allowed : goal.returns-then-not-double_allowed
 returns-then-not-double_allowed c =
     unallowed (double_checked _) (lt-ltb _ _ c.ranges.bits.fits)
     c.double_allowed.ensures
-    c.if-not-double_allowed.true c.number_refused.ensures
+    c.if-not-double_allowed.true
 
 pub returns : goal.returns
 returns c =
@@ -16,4 +16,4 @@ returns c =
     c.ranges.bits.fits)
     c.double_allowed.ensures
     c.if-not-double_allowed.false (stored_digits 8 _ (omega arith)
-    c.put_number.ensures) c.number_put.ensures
+    c.put_number.ensures)

@@ -6,24 +6,21 @@ use Rattle.pens.proofs.text.begin_text.Goals as goal
 pub returns-then-contents-used : goal.returns-then-contents-used
 returns-then-contents-used c =
     lacking (text_tested _ _ _ _ _) _ c.requires.0 c.if-contents-used.true
-    c.head_refused.ensures
 
 pub returns-then-not-is_sized : goal.returns-then-not-is_sized
 returns-then-not-is_sized c =
     unsized (text_tested _ _ _ _ _) _ c.requires.0
     c.if-contents-used.false refl refl c.is_sized.ensures c.if-not-is_sized.true
-    c.head_refused-then-not-is_sized.ensures
 
 pub returns-then-not-has_characters : goal.returns-then-not-has_characters
 returns-then-not-has_characters c =
     strange (text_tested _ _ _ _ _) _ c.requires.0
     c.if-contents-used.false refl refl
     c.is_sized.ensures c.if-not-is_sized.false
-    c.has_characters.ensures c.if-not-has_characters.true c.head_refused-then-not-has_characters.ensures
+    c.has_characters.ensures c.if-not-has_characters.true
 
 pub returns : goal.returns
 returns c =
     begins (text_tested _ _ _ _ _) _ c.requires.0 c.if-contents-used.false refl refl
     c.is_sized.ensures c.if-not-is_sized.false
     c.has_characters.ensures c.if-not-has_characters.false c.put_text_head.ensures
-    c.head_put.ensures
