@@ -19,69 +19,69 @@ use Rattle.x696.specs.Table.{row_width, type_of}
 use Rattle.x696.specs.TableFault.{TableFault as Meant, sound, bad_size, bad_row, table_fault}
 use Rattle.x696.specs.Operations.{node_limit, octet_limit, usable, asked, read_message, value_in, validate, over, Decoded}
 use Rattle.x696.specs.Operations.{decodable, decode}
-use Rattle.table.specs.Replies.{as_reply}
-use Rattle.table.specs.Judged.{as_fault}
+use Rattle.table.specs.Replies.{as_reply, as_answer, refused_reply}
+use Rattle.table.specs.Judged.{as_fault, table_refusal}
 use Rattle.table.specs.declared.reply.Reply.{Reply}
 use Rattle.table.specs.declared.check.TableFault.{TableFault}
-use Rattle.table.specs.declared.check.TableFault.TheVariants.{Sound, Size, Row}
+use Rattle.table.specs.declared.check.TableFault.TheVariants.{Size, Row}
+use Rattle.std.specs.Prelude.{Result, Ok, Err, ⊤}
+use Rattle.octets.specs.Cause.{code_of}
+use Rattle.octets.specs.Part.{part_of, refused as refusing}
+use Rattle.octets.specs.declared.faults.Cause.{Cause}
+use Rattle.octets.specs.declared.faults.Cause.TheVariants.{UnknownType, Room}
+use Rattle.octets.specs.declared.faults.Part.{Part}
+use Rattle.octets.specs.declared.faults.Part.TheVariants.{Table, Result as ResultPart}
+use Rattle.octets.specs.declared.faults.Refusal.{Refusal}
+use Rattle.octets.specs.declared.faults.Fault.{Fault}
 use Rattle.kinds.specs.Run.{Gone, Ran}
 use Rattle.decoding.specs.Replied.{Refuses, AskedAnswer, Handed, ValueAnswer, Decodes}
 use Rattle.kinds.specs.declared.cursor.Cursor.{Cursor}
-use Rattle.kinds.specs.declared.cursor.Read.{Read}
-use Rattle.kinds.specs.declared.cursor.Read.TheVariants.{Got, Refused}
-use Rattle.decoding.specs.declared.operations.Asked.TheVariants.{Ready, Refused as NotAsked}
 use Rattle.decoding.specs.declared.operations.Counts.{Counts}
-use Rattle.decoding.specs.declared.operations.Surveyed.{Surveyed}
-use Rattle.decoding.specs.declared.operations.Surveyed.TheVariants.{Got as Has, Refused as Lacks}
 use Rattle.kinds.proofs.Ran.{offset_is}
 
 zero_one : {A : Type 0} → ◌≡◌ {A = ℕ} 0 1 → A
 zero_one e = absurd (omega arith)
 
 -- ---- the table and the row
-size_fault : (x : Meant) → as_fault x ≡ Size → x ≡ bad_size
+size_fault : (x : Meant) → as_fault x ≡ Err Size → x ≡ bad_size
 unfolding as_fault
 size_fault sound e = zero_one cc
 size_fault bad_size e = refl
 size_fault (bad_row k) e = zero_one cc
 
-row_fault : (x : Meant) {k : ℕ} → as_fault x ≡ Row k → x ≡ bad_row k
+row_fault : (x : Meant) {k : ℕ} → as_fault x ≡ Err (Row k) → x ≡ bad_row k
 unfolding as_fault
 row_fault sound e = zero_one cc
 row_fault bad_size e = zero_one cc
 row_fault (bad_row j) e = cc
 
-no_fault : (x : Meant) → as_fault x ≡ Sound → x ≡ sound
+no_fault : (x : Meant) → as_fault x ≡ Ok tt → x ≡ sound
 unfolding as_fault
 no_fault sound e = refl
 no_fault bad_size e = zero_one cc
 no_fault (bad_row k) e = zero_one cc
 
-module _ (rows items : List ℕ) (row : ℕ) {f : TableFault} (ef : f ≡ as_fault (table_fault rows items)) {x : Reply} where
-  stop : {n q p : ℕ} → asked rows items row ≡ refusal n q p → x ≡ as_reply (refusal_reply n q p)
-      → AskedAnswer rows items row (NotAsked x)
-  stop {n} {q} {p} e h = record {
+module _ (rows items : List ℕ) (row : ℕ) {f : Result ⊤ TableFault} (ef : f ≡ as_fault (table_fault rows items)) where
+  stop : {x : Refusal} → asked rows items row ≡ as_answer x → AskedAnswer rows items row (Err x)
+  stop {x} e = record {
     ready = λ z. zero_one cc;
-    stopped = λ y z. let w : x ≡ y = cc in record { number = n; part = q; place = p; is = e; reply = sym w ∙ h };
+    stopped = λ y z. let w : x ≡ y = cc in rw (← w) (record { is = e });
   }
 
-  pub asked_size : f ≡ Size → x ≡ as_reply (refusal_reply 1 0 0) → AskedAnswer rows items row (NotAsked x)
+  pub asked_fault : (g : TableFault) {x : Refusal} → f ≡ Err g → x ≡ table_refusal g → AskedAnswer rows items row (Err x)
   unfolding asked usable
-  asked_size e h = stop (rw (size_fault (table_fault rows items) (sym ef ∙ e))) h
+  asked_fault Size e h = rw h (stop (rw (size_fault (table_fault rows items) (sym ef ∙ e))))
+  asked_fault (Row k) e h = rw h (stop (rw (row_fault (table_fault rows items) (sym ef ∙ e))))
 
-  pub asked_bad : {k : ℕ} → f ≡ Row k → x ≡ as_reply (refusal_reply 2 0 k) → AskedAnswer rows items row (NotAsked x)
-  unfolding asked usable
-  asked_bad e h = stop (rw (row_fault (table_fault rows items) (sym ef ∙ e))) h
-
-  module _ (e : f ≡ Sound) {n : ℕ} (en : n ≡ length rows / row_width) where
-    pub asked_none : n ≤ row → x ≡ as_reply (refusal_reply 3 0 0) → AskedAnswer rows items row (NotAsked x)
+  module _ (e : f ≡ Ok tt) {n : ℕ} (en : n ≡ length rows / row_width) where
+    pub asked_none : {x : Refusal} → n ≤ row → x ≡ refusing UnknownType Table 0 → AskedAnswer rows items row (Err x)
     unfolding asked usable unless
     asked_none h g =
-        stop (rw (no_fault (table_fault rows items) (sym ef ∙ e), le-ltb row (length rows / row_width) (omega arith))) g
+        rw g (stop
+        (rw (no_fault (table_fault rows items) (sym ef ∙ e), le-ltb row (length rows / row_width) (omega arith))))
 
-pub asked_there : (rows items : List ℕ) (row : ℕ) {f : TableFault} → f ≡ as_fault (table_fault rows items) → f ≡ Sound
-    → {n : ℕ}
-    → n ≡ length rows / row_width → row < n → AskedAnswer rows items row Ready
+pub asked_there : (rows items : List ℕ) (row : ℕ) {f : Result ⊤ TableFault} → f ≡ as_fault (table_fault rows items)
+    → f ≡ Ok tt → {n : ℕ} → n ≡ length rows / row_width → row < n → AskedAnswer rows items row (Ok tt)
 unfolding asked usable unless
 asked_there rows items row ef e en h =
     let q = no_fault (table_fault rows items) (sym ef ∙ e) in
@@ -90,25 +90,24 @@ asked_there rows items row ef e en h =
 
 -- ---- a value, or a refusal
 module _ {a : Answer Val} where
-  pub value_stop : {n q p : ℕ} {x : Reply} → a ≡ refusal n q p → x ≡ as_reply (refusal_reply n q p)
-      → ValueAnswer a (Lacks x)
-  value_stop {n} {q} {p} {x} e h = record {
+  pub value_stop : {x y : Refusal} → a ≡ as_answer x → y ≡ x → ValueAnswer a (Err y)
+  value_stop {x} e h = rw h (record {
     went = λ c z. zero_one cc;
-    stopped = λ y z. let w : x ≡ y = cc in record { number = n; part = q; place = p; is = e; reply = sym w ∙ h };
-  }
+    stopped = λ y z. let w : x ≡ y = cc in rw (← w) (record { is = e });
+  })
 
-  pub value_got : {c : Counts} → Handed a c → ValueAnswer a (Has c)
+  pub value_got : {c : Counts} → Handed a c → ValueAnswer a (Ok c)
   value_got {c} h = record { went = λ d z. let w : c ≡ d = cc in rw (← w) h; stopped = λ y z. zero_one cc }
 
-  pub value_by : {b : Answer Val} {r : Surveyed} → b ≡ a → ValueAnswer a r → ValueAnswer b r
+  pub value_by : {b : Answer Val} {r : Result Counts Refusal} → b ≡ a → ValueAnswer a r → ValueAnswer b r
   value_by e w = rw e w
 
 module _ (rows items : List ℕ) (row : ℕ) (msg : List ℕ) where
-  pub valued_stop : {x : Reply} → Refuses (asked rows items row) x → ValueAnswer (value_in rows items row msg) (Lacks x)
+  pub valued_stop : {x : Refusal} → Refuses (asked rows items row) x → ValueAnswer (value_in rows items row msg) (Err x)
   unfolding value_in then
-  valued_stop h = value_stop (rw h.is) h.reply
+  valued_stop h = value_stop (rw h.is) refl
 
-  pub valued_by : asked rows items row ≡ done (type_of rows items row) → {r : Surveyed}
+  pub valued_by : asked rows items row ≡ done (type_of rows items row) → {r : Result Counts Refusal}
       → ValueAnswer (in_part 1 (read_message (type_of rows items row) msg)) r → ValueAnswer (value_in rows items row msg) r
   unfolding value_in then
   valued_by e w = value_by (rw e) w
@@ -212,9 +211,10 @@ module _ (rows items : List ℕ) (row : ℕ) (msg : List ℕ) where
   abbrev valued : Answer Val
   valued = value_in rows items row msg
 
-  pub valid_stop : {x : Reply} → Refuses valued x → x ≡ as_reply (validate rows items row msg)
+  pub valid_stop : {x : Refusal} {q : Reply} → Refuses valued x → q ≡ refused_reply x
+      → q ≡ as_reply (validate rows items row msg)
   unfolding validate answer
-  valid_stop r = r.reply ∙ rw r.is
+  valid_stop r e = e ∙ rw r.is
 
   pub valid_done : {c : Counts} {x : Reply} → Handed valued c → x ≡ as_reply (done_reply c.nodes c.octets)
       → x ≡ as_reply (validate rows items row msg)
@@ -231,27 +231,33 @@ module _ (rows items : List ℕ) (row : ℕ) (msg : List ℕ) where
     unfolding decode answer
     decode_no e h = rw e (record { reply = h; listed = refl; copied = refl })
 
-    pub decode_stop : {x : Reply} → Refuses valued x → Decodes decoding ns cs x
+    pub decode_stop : {x : Refusal} {q : Reply} → Refuses valued x → q ≡ refused_reply x → Decodes decoding ns cs q
     unfolding decodable then
-    decode_stop r = decode_no (rw r.is) r.reply
+    decode_stop r e = decode_no (rw r.is) e
+
+    -- 12 in part 4
+    no_room : {x : Refusal} {q : Reply} → x ≡ refusing Room ResultPart 0 → q ≡ refused_reply x
+        → q ≡ as_reply (refusal_reply 12 4 0)
+    no_room e h = h ∙ rw e
 
     module _ {c : Counts} (h : Handed valued c) where
-      pub decode_nodes : length ns / 2 < c.nodes → {x : Reply} → x ≡ as_reply (refusal_reply 12 4 0)
-          → Decodes decoding ns cs x
+      pub decode_nodes : length ns / 2 < c.nodes → {x : Refusal} {q : Reply} → x ≡ refusing Room ResultPart 0
+          → q ≡ refused_reply x → Decodes decoding ns cs q
       unfolding decodable then unless
-      decode_nodes l e = decode_no (rw (h.is, lt-leb (size h.what * node_width) (length ns) (omega (arith, h.nodes)))) e
+      decode_nodes l e g =
+          decode_no (rw (h.is, lt-leb (size h.what * node_width) (length ns) (omega (arith, h.nodes)))) (no_room e g)
 
       module _ (room : c.nodes ≤ length ns / 2) where
-        pub decode_contents : length cs < c.octets → {x : Reply} → x ≡ as_reply (refusal_reply 12 4 0)
-            → Decodes decoding ns cs x
+        pub decode_contents : length cs < c.octets → {x : Refusal} {q : Reply} → x ≡ refusing Room ResultPart 0
+            → q ≡ refused_reply x → Decodes decoding ns cs q
         unfolding decodable then unless
-        decode_contents l e =
+        decode_contents l e g =
             decode_no
             (rw (
               h.is,
               le-leb (size h.what * node_width) (length ns) (omega (arith, h.nodes)),
               lt-leb (length (contents h.what)) (length cs) (omega (arith, h.octets)),
-            )) e
+            )) (no_room e g)
 
         module _ (space : c.octets ≤ length cs) where
           fits : decodable rows items row msg ns cs ≡ done h.what
@@ -264,15 +270,15 @@ module _ (rows items : List ℕ) (row : ℕ) (msg : List ℕ) where
               )
 
           -- read again with the buffers lent: the value's list stands at their fronts
-          pub decode_done : {ns' cs' : List ℕ} (r : Read)
+          pub decode_done : {ns' cs' : List ℕ} (r : Result Cursor Fault)
               → Ran msg (read node_limit (type_of rows items row) (length msg) (message msg 0)) 0 0 0 ns cs ns' cs' r
               → {x : Reply} → x ≡ as_reply (done_reply c.nodes c.octets) → Decodes decoding ns' cs' x
           unfolding decode answer over
-          decode_done (Refused f) w e =
+          decode_done (Err f) w e =
               let k = value_known rows items row msg h.is in
-              let z : got h.what k.rest ≡ refused f.number f.place = sym k.reads ∙ w.stopped f refl in
+              let z : got h.what k.rest ≡ refused (code_of f.cause) f.place = sym k.reads ∙ w.stopped f refl in
               zero_one cc
-          decode_done {ns'} {cs'} (Got d) w e =
+          decode_done {ns'} {cs'} (Ok d) w e =
               let k = value_known rows items row msg h.is in
               let g = w.went d refl in
               let q : got h.what k.rest ≡ got g.what (message (drop d.at msg) d.count) = sym k.reads ∙ g.reads in

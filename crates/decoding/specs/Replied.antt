@@ -1,33 +1,26 @@
 -- What the operations' parts answer, in the terms of `Answer`.
 -- Assumes nothing.
-use Rattle.std.specs.Prelude.{◌≡◌, List, ℕ, ◌/◌, ◌<◌, length}
+use Rattle.std.specs.Prelude.{Result, Ok, Err, ⊤, ◌≡◌, List, ℕ, ◌/◌, ◌<◌, length}
 use Rattle.x696.specs.Value.{Val, size, contents}
-use Rattle.x696.specs.Reply.{Answer, refusal, done, refusal_reply}
+use Rattle.x696.specs.Reply.{Answer, done}
 use Rattle.x696.specs.Table.{row_width, type_of}
 use Rattle.x696.specs.TableFault.{sound, table_fault}
 use Rattle.x696.specs.Operations.{asked, Decoded}
-use Rattle.table.specs.Replies.{as_reply}
+use Rattle.table.specs.Replies.{as_reply, as_answer}
+use Rattle.octets.specs.declared.faults.Refusal.{Refusal}
 use Rattle.table.specs.declared.reply.Reply.{Reply}
-use Rattle.decoding.specs.declared.operations.Asked.{Asked}
-use Rattle.decoding.specs.declared.operations.Asked.TheVariants.{Ready, Refused as NotAsked}
 use Rattle.decoding.specs.declared.operations.Counts.{Counts}
-use Rattle.decoding.specs.declared.operations.Surveyed.{Surveyed}
-use Rattle.decoding.specs.declared.operations.Surveyed.TheVariants.{Got, Refused}
 
--- a refusal's three numbers, and the reply that carries them
-pub record Refuses {A : Type 0} (a : Answer A) (x : Reply) : Type 0 where
-  pub number : ℕ
-  pub part : ℕ
-  pub place : ℕ
-  pub is : a ≡ refusal number part place
-  pub reply : x ≡ as_reply (refusal_reply number part place)
+-- the answer is this refusal
+pub record Refuses {A : Type 0} (a : Answer A) (x : Refusal) : Type 0 where
+  pub is : a ≡ as_answer x
 
 -- a usable table and a row of it, or 1, 2, 3
-pub record AskedAnswer (rows items : List ℕ) (row : ℕ) (r : Asked) : Type 0 where
-  pub ready : r ≡ Ready
+pub record AskedAnswer (rows items : List ℕ) (row : ℕ) (r : Result ⊤ Refusal) : Type 0 where
+  pub ready : r ≡ Ok tt
       → (table_fault rows items ≡ sound) × (row < length rows / row_width)
       × (asked rows items row ≡ done (type_of rows items row))
-  pub stopped : (x : Reply) → r ≡ NotAsked x → Refuses (asked rows items row) x
+  pub stopped : (x : Refusal) → r ≡ Err x → Refuses (asked rows items row) x
 
 -- a value handed out, by its sizes
 pub record Handed (a : Answer Val) (c : Counts) : Type 0 where
@@ -36,9 +29,9 @@ pub record Handed (a : Answer Val) (c : Counts) : Type 0 where
   pub nodes : c.nodes ≡ size what
   pub octets : c.octets ≡ length (contents what)
 
-pub record ValueAnswer (a : Answer Val) (r : Surveyed) : Type 0 where
-  pub went : (c : Counts) → r ≡ Got c → Handed a c
-  pub stopped : (x : Reply) → r ≡ Refused x → Refuses a x
+pub record ValueAnswer (a : Answer Val) (r : Result Counts Refusal) : Type 0 where
+  pub went : (c : Counts) → r ≡ Ok c → Handed a c
+  pub stopped : (x : Refusal) → r ≡ Err x → Refuses a x
 
 -- decoding: the reply, and what each lent buffer then holds
 pub record Decodes (d : Decoded) (nodes contents : List ℕ) (r : Reply) : Type 0 where

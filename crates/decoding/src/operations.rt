@@ -8,56 +8,39 @@ ghost use Rattle.x696.specs.Operations.{read_message, value_in, validate as vali
 ghost use Rattle.table.specs.Replies.{as_reply};
 ghost use Rattle.decoding.specs.Replied.{AskedAnswer, ValueAnswer, Decodes};
 
-use kinds::cursor::Read;
+use octets::faults::{Cause, Part, Refusal};
 use reading::value::read_value;
-use table::check::{TableFault, fault_of};
-use table::reply::{Reply, done, refusal};
+use table::check::judge;
+use table::reply::{Reply, done};
 use table::words::rows_in;
 
 // Whether a table is sound and has the asked row; or the refusal: 1, 2, 3.
-#[derive(Clone, Copy)]
-pub enum Asked {
-    Ready,
-    Refused(Reply),
-}
-
-pub fn asked_row(rows: &[u64], items: &[u64], row: u64) -> Asked
+pub fn asked_row(rows: &[u64], items: &[u64], row: u64) -> Result<(), Refusal>
     ensures { AskedAnswer rows.now items.now row result }
 {
-    match fault_of(rows, items) {
-        TableFault::Size => Asked::Refused(refusal(1, 0, 0)),
-        TableFault::Row(k) => Asked::Refused(refusal(2, 0, k as u64)),
-        TableFault::Sound => {
-            let past = rows_in(rows) as u64 <= row;
-            if past {
-                return Asked::Refused(refusal(3, 0, 0));
-            }
-            Asked::Ready
-        }
+    judge(rows, items)?;
+    let past = rows_in(rows) as u64 <= row;
+    if past {
+        return Err(Cause::UnknownType.at(0).in_part(Part::Table));
     }
+    Ok(())
 }
 
-// The sizes of a message's value, or the refusal.
-#[derive(Clone, Copy)]
+// The sizes of a message's value.
+#[derive(Clone, Copy, Debug, PartialEq, Eq)]
 pub struct Counts {
     pub nodes: usize,
     pub octets: usize,
 }
 
-#[derive(Clone, Copy)]
-pub enum Surveyed {
-    Got(Counts),
-    Refused(Reply),
-}
-
 // Reads the whole message with nothing lent: 4, the first fault, 9.
-fn survey_message(rows: &[u64], items: &[u64], row: usize, msg: &[u8]) -> Surveyed
+fn survey_message(rows: &[u64], items: &[u64], row: usize, msg: &[u8]) -> Result<Counts, Refusal>
     requires { SoundTable rows.now items.now × (row < length rows.now / row_width) }
     ensures { ValueAnswer (in_part 1 (read_message (type_of rows.now items.now row) msg.now)) result }
 {
     let long = 65535 < msg.len();
     if long {
-        return Surveyed::Refused(refusal(4, 1, 0));
+        return Err(Cause::Long.at(0).in_part(Part::Message));
     }
     let mut nodes = [0u64; 1];
     let mut contents = [0u8; 1];
@@ -72,29 +55,26 @@ fn survey_message(rows: &[u64], items: &[u64], row: usize, msg: &[u8]) -> Survey
         &mut nodes[..0],
         &mut contents[..0],
     ) {
-        Read::Refused(f) => Surveyed::Refused(refusal(f.number, 1, f.place as u64)),
-        Read::Got(c) => {
-            let at = c.at;
-            let left_over = at < msg.len();
+        Err(fault) => Err(fault.in_part(Part::Message)),
+        Ok(end) => {
+            let left_over = end.at < msg.len();
             if left_over {
-                return Surveyed::Refused(refusal(9, 1, at as u64));
+                return Err(Cause::LeftOver.at(end.at).in_part(Part::Message));
             }
-            Surveyed::Got(Counts {
-                nodes: c.count,
-                octets: c.used,
+            Ok(Counts {
+                nodes: end.count,
+                octets: end.used,
             })
         }
     }
 }
 
 // The value of a message, with all refusals before ROOM.
-pub fn survey(rows: &[u64], items: &[u64], row: u64, msg: &[u8]) -> Surveyed
+pub fn survey(rows: &[u64], items: &[u64], row: u64, msg: &[u8]) -> Result<Counts, Refusal>
     ensures { ValueAnswer (value_in rows.now items.now row msg.now) result }
 {
-    match asked_row(rows, items, row) {
-        Asked::Refused(r) => Surveyed::Refused(r),
-        Asked::Ready => survey_message(rows, items, row as usize, msg),
-    }
+    asked_row(rows, items, row)?;
+    survey_message(rows, items, row as usize, msg)
 }
 
 // Validate a message: the nodes and contents octets of its value.
@@ -103,8 +83,8 @@ pub fn validate(rows: &[u64], items: &[u64], row: u64, msg: &[u8]) -> Reply
     ensures { result ≡ as_reply (validated rows.now items.now row msg.now) }
 {
     match survey(rows, items, row, msg) {
-        Surveyed::Refused(r) => r,
-        Surveyed::Got(c) => done(c.nodes as u64, c.octets as u64),
+        Ok(c) => done(c.nodes as u64, c.octets as u64),
+        Err(refusal) => Reply::from(refusal),
     }
 }
 
@@ -122,16 +102,16 @@ pub fn decode(
     ensures { Decodes (decoded rows.now items.now row msg.now nodes.old contents.old) nodes.new contents.new result }
 {
     match survey(rows, items, row, msg) {
-        Surveyed::Refused(r) => r,
-        Surveyed::Got(c) => {
+        Err(refusal) => Reply::from(refusal),
+        Ok(c) => {
             let count = c.nodes;
             let used = c.octets;
             if nodes.len() / 2 < count {
-                return refusal(12, 4, 0);
+                return Reply::from(Cause::Room.at(0).in_part(Part::Result));
             }
             let lacks = contents.len() < used;
             if lacks {
-                return refusal(12, 4, 0);
+                return Reply::from(Cause::Room.at(0).in_part(Part::Result));
             }
             let _again = read_value(rows, items, row as usize, msg, 0, 0, 0, nodes, contents);
             done(count as u64, used as u64)

@@ -22,3 +22,4 @@ pub mod PresenceBits
 pub mod OneBit
 pub mod EditBits
 pub mod EditTouches
+pub mod Refusing

@@ -1,6 +1,7 @@
 // Why and where something is refused: one fault type from leaf to face.
 ghost use Rattle.std.specs.Prelude.{◌≡◌};
 ghost use Rattle.octets.specs.Cause.{code_of};
+ghost use Rattle.octets.specs.Part.{part_of, refusal_in};
 ghost use Rattle.octets.specs.Answers.{fault};
 
 // Why something is refused (document 01, "Replies").
@@ -55,5 +56,51 @@ impl Cause {
 #[derive(Clone, Copy, Debug, PartialEq, Eq)]
 pub struct Fault {
     pub cause: Cause,
+    pub place: usize,
+}
+
+impl Fault {
+    // The refusal of an operation for a fault in this part of what it was lent.
+    pub fn in_part(self, part: Part) -> Refusal
+        ensures { result ≡ refusal_in part self }
+    {
+        Refusal {
+            cause: self.cause,
+            part,
+            place: self.place,
+        }
+    }
+}
+
+// What a refusal is about.
+#[derive(Clone, Copy, Debug, PartialEq, Eq)]
+pub enum Part {
+    Table,
+    Message,
+    List,
+    Path,
+    Result,
+}
+
+impl Part {
+    // The part's number.
+    pub fn number(self) -> u64
+        ensures { result ≡ part_of self }
+    {
+        match self {
+            Part::Table => 0,
+            Part::Message => 1,
+            Part::List => 2,
+            Part::Path => 3,
+            Part::Result => 4,
+        }
+    }
+}
+
+// Why, in which part and where an operation refuses.
+#[derive(Clone, Copy, Debug, PartialEq, Eq)]
+pub struct Refusal {
+    pub cause: Cause,
+    pub part: Part,
     pub place: usize,
 }

@@ -18,7 +18,7 @@ use Rattle.table.specs.declared.nestings.Judged.{Judged}
 use Rattle.table.specs.declared.check.TableFault.{TableFault}
 use Rattle.table.specs.declared.check.TableFault.TheVariants.{Size, Row}
 use Rattle.table.specs.declared.reply.Reply.{Reply}
-use Rattle.table.specs.declared.reply.Refusal.{Refusal}
+use Rattle.octets.specs.declared.faults.Refusal.{Refusal}
 use Rattle.table.specs.Replies.{as_reply, refused_reply}
 use Rattle.table.specs.Judged.{Judges, as_fault, table_refusal}
 

@@ -8,9 +8,9 @@ use Rattle.table.specs.declared.nestings.Judged.{Judged}
 use Rattle.table.specs.declared.check.TableFault.{TableFault}
 use Rattle.table.specs.declared.check.TableFault.TheVariants.{Size, Row}
 use Rattle.octets.specs.declared.faults.Cause.TheVariants.{TableSize, TableRow}
-use Rattle.table.specs.declared.reply.Part.TheVariants.{Table}
-use Rattle.table.specs.declared.reply.Refusal.{Refusal}
-use Rattle.table.specs.Replies.{refused}
+use Rattle.octets.specs.declared.faults.Part.TheVariants.{Table}
+use Rattle.octets.specs.declared.faults.Refusal.{Refusal}
+use Rattle.octets.specs.Part.{refused}
 use Rattle.table.specs.Orders.{SoundBelow}
 use Rattle.x696.specs.TableCheck.{given, no_bounds, no_range, string_sound}
 

@@ -6,9 +6,9 @@ ghost use Rattle.table.specs.Replies.{as_reply};
 ghost use Rattle.table.specs.Judged.{as_fault, table_refusal};
 
 use crate::nestings::{Judged, judge_rows};
-use crate::reply::{Part, Refusal, Reply, done};
+use crate::reply::{Reply, done};
 use crate::words::{items_in, rows_in};
-use octets::faults::Cause;
+use octets::faults::{Cause, Part, Refusal};
 
 // Why a table is refused.
 #[derive(Clone, Copy, Debug, PartialEq, Eq)]
@@ -22,8 +22,8 @@ impl From<TableFault> for Refusal {
 
     fn from(fault: TableFault) -> Self {
         match fault {
-            TableFault::Size => Part::Table.refusal(Cause::TableSize.at(0)),
-            TableFault::Row(row) => Part::Table.refusal(Cause::TableRow.at(row)),
+            TableFault::Size => Cause::TableSize.at(0).in_part(Part::Table),
+            TableFault::Row(row) => Cause::TableRow.at(row).in_part(Part::Table),
         }
     }
 }

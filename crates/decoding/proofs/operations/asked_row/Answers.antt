@@ -1,26 +1,19 @@
--- The table is checked, then the row is compared with the count.
+-- The table is judged, then the row is compared with the count.
 -- Assumes nothing.
 use native.Mathlib.Omega.{arith}
-use Rattle.decoding.proofs.Replying.{asked_size, asked_bad, asked_none, asked_there}
+use Rattle.std.proofs.lemmas.Result.{err_from_is_err_and}
+use Rattle.octets.proofs.Refusing.{refuses}
+use Rattle.decoding.proofs.Replying.{asked_fault, asked_none, asked_there}
 use Rattle.decoding.proofs.operations.asked_row.Goals as goal
+
+pub returns-in_err-judge : goal.returns-in_err-judge
+returns-in_err-judge c =
+    let p = err_from_is_err_and c.from_residual.result c.from_residual.ensures.1 in
+    rw p.1 (asked_fault _ _ _ c.judge.ensures _ c.in_err-judge.was p.2)
 
 pub returns-then-past : goal.returns-then-past
 returns-then-past c =
-    asked_none _ _ _ c.fault_of.ensures
-    c.in-Sound.is c.rows_in.ensures c.if-past.true
-    c.refusal-then-past.ensures
+    asked_none _ _ _ c.judge.ensures c.in_ok-judge.was c.rows_in.ensures c.if-past.true (refuses c.at.ensures c.in_part.ensures)
 
-pub returns-in-Size : goal.returns-in-Size
-returns-in-Size c =
-    asked_size _ _ _ c.fault_of.ensures c.in-Size.is
-    c.refusal.ensures
-
-pub returns-in-Row : goal.returns-in-Row
-returns-in-Row c =
-    asked_bad _ _ _ c.fault_of.ensures c.in-Row.is
-    c.refusal-in-Row.ensures
-
-pub returns-else-past : goal.returns-else-past
-returns-else-past c =
-    asked_there _ _ _ c.fault_of.ensures c.in-Sound.is
-    c.rows_in.ensures (omega arith)
+pub returns : goal.returns
+returns c = asked_there _ _ _ c.judge.ensures c.in_ok-judge.was c.rows_in.ensures (omega arith)

@@ -3,10 +3,8 @@
 use Rattle.decoding.proofs.Replying.{valid_stop, valid_done}
 use Rattle.decoding.proofs.operations.validate.Goals as goal
 
-pub returns-in-Refused : goal.returns-in-Refused
-returns-in-Refused c = valid_stop _ _ _ _ (c.survey.ensures.stopped _ c.in-Refused.is)
+pub returns-in-Err : goal.returns-in-Err
+returns-in-Err c = valid_stop _ _ _ _ (c.survey.ensures.stopped _ c.in-Err.is) c.from.ensures
 
-pub returns-in-Got : goal.returns-in-Got
-returns-in-Got c =
-    valid_done _ _ _ _ (c.survey.ensures.went _ c.in-Got.is)
-    c.done.ensures
+pub returns-in-Ok : goal.returns-in-Ok
+returns-in-Ok c = valid_done _ _ _ _ (c.survey.ensures.went _ c.in-Ok.is) c.done.ensures
