@@ -24,7 +24,9 @@ use Rattle.x696.proofs.TableKinds.{choice_type}
 use Rattle.octets.proofs.Answered.{next_refused, next_got}
 use Rattle.octets.proofs.Stores.{sets_after}
 use Rattle.pens.specs.Put.{listed_at, walk_behind, Put}
-use Rattle.pens.specs.declared.pen.Wrote.{Wrote}
+use Rattle.std.proofs.Common.{Result}
+use Rattle.octets.specs.declared.faults.Fault.{Fault}
+use Rattle.pens.specs.declared.pen.Pen.{Pen}
 
 -- ---- the alternative at place j of n items from g on
 module _ (f : ℕ → Ty) (items : List ℕ) where
@@ -91,7 +93,7 @@ module _ (rows items ws cs : List ℕ) (row at u number : ℕ) (sound : row_soun
     unfolding encode
     octets_are v = rw (type_is g eg, er, ei) (alternative_octets T items g n number v h)
 
-    pub chosen_goes : (l : List ℕ) (to : ℕ) {q class index : ℕ} {l₁ l' : List ℕ} {r : Wrote} → class ≡ tag_class items
+    pub chosen_goes : (l : List ℕ) (to : ℕ) {q class index : ℕ} {l₁ l' : List ℕ} {r : Result Pen Fault} → class ≡ tag_class items
         i
         → index ≡ tag_number items i → l₁ ≡ sets l to (tag_octets (tag class index))
         → q ≡ to + length (tag_octets (tag class index)) → q ≤ to + 4

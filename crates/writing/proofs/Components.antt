@@ -22,14 +22,14 @@ use Rattle.x696.specs.TableCheck.{default_sound}
 use Rattle.x696.proofs.TableRows.{kind_known}
 use Rattle.pens.specs.Put.{pen, listed_at, Penned, Put}
 use Rattle.pens.specs.declared.pen.Pen.{Pen}
-use Rattle.pens.specs.declared.pen.Wrote.{Wrote}
-use Rattle.pens.specs.declared.pen.Wrote.TheVariants.{Got}
 use Rattle.writing.specs.Noted.{missing_at, with_presence, marked, noted, Notes}
 use Rattle.reading.specs.Members.{Member}
 use Rattle.pens.proofs.Putting.{put_penned}
 use Rattle.writing.proofs.NodeTests.{kind_is}
 use Rattle.writing.proofs.Missing.{missing_got, carried_walk, carried_differs, missing_octets, missing_bits}
 use Rattle.writing.proofs.Missing.{carried_octets_lem, carried_bits, plain_octets, plain_bits, plain_walk, stands_there}
+use Rattle.std.proofs.Common.{Result, Ok}
+use Rattle.octets.specs.declared.faults.Fault.{Fault}
 
 pub marked_plain : (m : ℕ) (l : List ℕ) (pre b : ℕ) → m ≡ 0 → marked m l pre b ≡ l
 unfolding marked
@@ -88,7 +88,7 @@ module _ (t : Ty) (ws cs : List ℕ) (n u p m d : ℕ) where
       }
 
   -- ---- without a presence bit
-  module _ {l l' : List ℕ} {r : Wrote} (w : Put ws cs (walk t S) (λ v. encode t v) n u p l l' r) where
+  module _ {l l' : List ℕ} {r : Result Pen Fault} (w : Put ws cs (walk t S) (λ v. encode t v) n u p l l' r) where
     pub component_plain : m ≡ 0 → Put ws cs (walk_component m t S) own n u p l l' r
     component_plain e = record {
       went = λ c f. plain_penned (w.went c f) e;
@@ -102,14 +102,14 @@ module _ (t : Ty) (ws cs : List ℕ) (n u p m d : ℕ) where
       stopped = λ x f. carried_walk t ws cs n u k d ek known m h e ∙ w.stopped x f;
     }
 
-  pub component_missing : (k : ℕ) {l : List ℕ} {r : Wrote} → k ≡ kind_of t → (m ≡ 0 → ⊥) → missing_at ws n k m d ≡ true
-      → (1 < m → default_sound t d ≡ true) → u ≤ length cs → r ≡ Got (pen (n + 1) u p)
+  pub component_missing : (k : ℕ) {l : List ℕ} {r : Result Pen Fault} → k ≡ kind_of t → (m ≡ 0 → ⊥) → missing_at ws n k m d ≡ true
+      → (1 < m → default_sound t d ≡ true) → u ≤ length cs → r ≡ Ok (pen (n + 1) u p)
       → Put ws cs (walk_component m t S) own n u p l l r
   component_missing k {l} ek h e s g f = put_penned (missing_penned l ek h e s g) f
 
   -- ---- with its presence bit, b of the preamble at pre
   module _ (pre b : ℕ) where
-    pub noted_plain : {l l' : List ℕ} {r : Wrote} → Put ws cs (walk t S) (λ v. encode t v) n u p l l' r → m ≡ 0
+    pub noted_plain : {l l' : List ℕ} {r : Result Pen Fault} → Put ws cs (walk t S) (λ v. encode t v) n u p l l' r → m ≡ 0
         → Notes ws cs m d t S pre b n u p l l' r
     unfolding noted
     noted_plain {l} w e = record {
@@ -121,8 +121,8 @@ module _ (t : Ty) (ws cs : List ℕ) (n u p m d : ℕ) where
       stopped = λ x f. plain_walk d t m S e ∙ w.stopped x f;
     }
 
-    pub noted_missing : (k : ℕ) {l : List ℕ} {r : Wrote} → k ≡ kind_of t → (m ≡ 0 → ⊥) → missing_at ws n k m d ≡ true
-        → (1 < m → default_sound t d ≡ true) → u ≤ length cs → r ≡ Got (pen (n + 1) u p)
+    pub noted_missing : (k : ℕ) {l : List ℕ} {r : Result Pen Fault} → k ≡ kind_of t → (m ≡ 0 → ⊥) → missing_at ws n k m d ≡ true
+        → (1 < m → default_sound t d ≡ true) → u ≤ length cs → r ≡ Ok (pen (n + 1) u p)
         → Notes ws cs m d t S pre b n u p l l r
     unfolding noted choose
     noted_missing k {l} ek h e s g f = record {
@@ -138,7 +138,7 @@ module _ (t : Ty) (ws cs : List ℕ) (n u p m d : ℕ) where
       stopped = λ x q. let z : ◌≡◌ {A = ℕ} 0 1 = cc in absurd (omega arith);
     }
 
-    pub noted_carried : (k : ℕ) {l l₁ l' : List ℕ} {r : Wrote} → k ≡ kind_of t → 0 < k → (m ≡ 0 → ⊥)
+    pub noted_carried : (k : ℕ) {l l₁ l' : List ℕ} {r : Result Pen Fault} → k ≡ kind_of t → 0 < k → (m ≡ 0 → ⊥)
         → missing_at ws n k m d ≡ false
         → l₁ ≡ with_presence l pre b
         → Put ws cs (walk t S) (λ v. encode t v) n u p l₁ l' r → Notes ws cs m d t S pre b n u p l l' r
@@ -165,7 +165,7 @@ module _ (rows items ws cs : List ℕ) (above row mark i n u p pre b : ℕ) (kno
   abbrev given : ℕ
   given = component_default items i
 
-  abbrev WroteMember : (l l' : List ℕ) → Wrote → Type 0
+  abbrev WroteMember : (l l' : List ℕ) → Result Pen Fault → Type 0
   WroteMember l l' r = Notes ws cs mark given T (listed_at ws cs n u) pre b n u p l l' r
 
   is_kind : row_kind rows row ≡ kind_of T
@@ -176,7 +176,7 @@ module _ (rows items ws cs : List ℕ) (above row mark i n u p pre b : ℕ) (kno
       let (_, one, er, em, _) = known.marked (λ z. omega arith) in
       rw er (one.default (omega (arith, one.mark, em)))
 
-  pub member_missing : {l : List ℕ} {r : Wrote} → x ≡ true → u ≤ length cs → r ≡ Got (pen (n + 1) u p) → WroteMember
+  pub member_missing : {l : List ℕ} {r : Result Pen Fault} → x ≡ true → u ≤ length cs → r ≡ Ok (pen (n + 1) u p) → WroteMember
       l l r
   member_missing e g f =
       let (some, stands) = and_both (not (eqb mark 0)) _ (sym ex ∙ e) in
@@ -184,7 +184,7 @@ module _ (rows items ws cs : List ℕ) (above row mark i n u p pre b : ℕ) (kno
       0) some)) stands
       default_sound_lem g f
 
-  pub member_carried : {l l₁ l' : List ℕ} {r : Wrote} → x ≡ false → l₁ ≡ marked mark l pre b
+  pub member_carried : {l l₁ l' : List ℕ} {r : Result Pen Fault} → x ≡ false → l₁ ≡ marked mark l pre b
       → Put ws cs (walk T (listed_at ws cs n u)) (λ v. encode T v) n u p l₁ l' r → WroteMember l l' r
   unfolding marked
   member_carried {l} {l₁} {l'} {r} e s w =

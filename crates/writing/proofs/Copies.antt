@@ -20,8 +20,10 @@ use Rattle.x696.specs.Walk.{Listed, component_walk, walk, walk_components}
 use Rattle.x696.proofs.WalkSound.{got_same}
 use Rattle.x696.specs.Table.{type_of}
 use Rattle.pens.specs.Put.{listed_at, Put}
-use Rattle.pens.specs.declared.pen.Wrote.{Wrote}
 use Rattle.writing.specs.Members.{copies, members, group_octets, PutAll}
+use Rattle.std.proofs.Common.{Result}
+use Rattle.octets.specs.declared.faults.Fault.{Fault}
+use Rattle.pens.specs.declared.pen.Pen.{Pen}
 
 next_same : {S A B : Type 0} (o : Outcome S A) (k j : A → S → Outcome S B) → ((a : A) (s : S) → k a s ≡ j a s)
     → next o k ≡ next o j
@@ -78,7 +80,7 @@ module _ (t : Ty) where
   unfolding each
   alone_octets v = append-nil (encode t v)
 
-pub alone : (rows items : List ℕ) (inner : ℕ) {ws cs : List ℕ} {n u p : ℕ} {l l' : List ℕ} {r : Wrote}
+pub alone : (rows items : List ℕ) (inner : ℕ) {ws cs : List ℕ} {n u p : ℕ} {l l' : List ℕ} {r : Result Pen Fault}
     → PutAll ws cs (members rows items inner false 0 1) (listed_at ws cs n u) p n u p l l' r
     → Put ws cs (walk (type_of rows items inner) (listed_at ws cs n u)) (λ v. encode (type_of rows items inner) v) n u p
     l l' r

@@ -20,9 +20,11 @@ use Rattle.x696.proofs.TableKinds.{sequence_of_type}
 use Rattle.octets.proofs.Answered.{next_refused, next_got}
 use Rattle.octets.proofs.Stores.{sets_after}
 use Rattle.pens.specs.Put.{listed_at, walk_behind, Put}
-use Rattle.pens.specs.declared.pen.Wrote.{Wrote}
 use Rattle.writing.specs.Members.{copies, members, PutAll}
 use Rattle.writing.proofs.Copies.{copies_walk, copies_octets}
+use Rattle.std.proofs.Common.{Result}
+use Rattle.octets.specs.declared.faults.Fault.{Fault}
+use Rattle.pens.specs.declared.pen.Pen.{Pen}
 
 module _ (rows items ws cs : List ℕ) (row at u number : ℕ) (sound : row_sound rows items row ≡ true)
     (is : row_kind rows row ≡ 11) (g inner : ℕ) (eg : g ≡ row_first rows row) (ei : inner ≡ component_row items g) where
@@ -45,7 +47,7 @@ module _ (rows items ws cs : List ℕ) (row at u number : ℕ) (sound : row_soun
   unfolding encode
   octets_are vs = rw type_is
 
-  pub elements_go : (l : List ℕ) (to : ℕ) {q : ℕ} {l₁ l' : List ℕ} {r : Wrote}
+  pub elements_go : (l : List ℕ) (to : ℕ) {q : ℕ} {l₁ l' : List ℕ} {r : Result Pen Fault}
       → l₁ ≡ sets l to (variable_unsigned number)
       → q ≡ to + length (variable_unsigned number) → q ≤ to + 9
       → PutAll ws cs (members rows items inner false 0 number) (listed_at ws cs (at + 1) u) q (at + 1) u q l₁ l' r

@@ -16,15 +16,15 @@ use Rattle.x696.specs.Types.{Ty, Items, no_items, item, presence_count, mark_cou
 use Rattle.x696.specs.Encode.{bit, presence_bits, presence, carried_octets, encode, encode_components, own_octets}
 use Rattle.x696.specs.Walk.{Listed, walk, walk_components, walk_component}
 use Rattle.x696.specs.Table.{component_default, items_from, type_of}
-use Rattle.octets.specs.declared.answers.Fault.{Fault}
+use Rattle.octets.specs.declared.faults.Fault.{Fault}
 use Rattle.pens.specs.Put.{pen, listed_at, node_octets}
 use Rattle.pens.specs.declared.pen.Pen.{Pen}
-use Rattle.pens.specs.declared.pen.Wrote.{Wrote}
-use Rattle.pens.specs.declared.pen.Wrote.TheVariants.{Got, Refused}
 use Rattle.reading.specs.Members.{member_row, member_mark}
 use Rattle.writing.specs.Members.{copies, members, PutAll}
 use Rattle.writing.specs.Noted.{Noted}
 use Rattle.writing.proofs.Groups.{Rest, Bit, first, rest_start, rest_turn, rest_stop, rest_done}
+use Rattle.std.proofs.Common.{Result, Ok, Err}
+use Rattle.octets.specs.Cause.{code_of}
 
 -- ---- a component's presence bit, and what is left when none is
 bit_below : (t : Bool) → bit t < 2
@@ -190,8 +190,8 @@ module _ (rows items ws cs : List ℕ) (inner : ℕ) (listed : Bool) (pre g n a�
       (inv : MembersLeft rows items ws cs l₀ inner listed pre g n a₀ u₀ i b a u p l) where
     pub members_stop : {to m row : ℕ} {l' : List ℕ} {f : Fault} → i < n → m ≡ member_mark items listed (g + i)
         → row ≡ member_row items inner listed (g + i)
-        → walk_component m (type_of rows items row) (listed_at ws cs a u) ≡ refused f.number f.place
-        → PutAll ws cs all (listed_at ws cs a₀ u₀) pre a₀ u₀ to l₀ l' (Refused f)
+        → walk_component m (type_of rows items row) (listed_at ws cs a u) ≡ refused (code_of f.cause) f.place
+        → PutAll ws cs all (listed_at ws cs a₀ u₀) pre a₀ u₀ to l₀ l' (Err f)
     members_stop {f = f} h em er e =
         let stop = rest_stop inv _ (walk_step rows items inner listed g n i (listed_at ws cs a u) h) (rw (em, er) at
         e) in
@@ -224,10 +224,10 @@ module _ (rows items ws cs : List ℕ) (inner : ℕ) (listed : Bool) (pre g n a�
         (λ vs. presence_step rows items inner listed g n i v vs h) (λ vs. octets_step rows items inner listed g n i v
         vs h))
 
-    pub members_done : {to : ℕ} {r : Wrote} → n ≤ i
+    pub members_done : {to : ℕ} {r : Result Pen Fault} → n ≤ i
         → b + marks_left rows items inner listed g n i ≡ marks_left rows items inner listed g n 0
         → a * node_width ≤ length ws → u ≤ length cs → p + (a₀ * node_octets + u₀) ≤ to + (a * node_octets + u)
-        → r ≡ Got (pen a u p) → PutAll ws cs all (listed_at ws cs a₀ u₀) pre a₀ u₀ to l₀ l r
+        → r ≡ Ok (pen a u p) → PutAll ws cs all (listed_at ws cs a₀ u₀) pre a₀ u₀ to l₀ l r
     members_done h eb inside within bound e =
         let rest = left rows items inner listed g n i in
         let z = rest_done inv (walk_none rows items inner listed g n i (listed_at ws cs a u) h) (presence_none rest)

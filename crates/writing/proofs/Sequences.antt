@@ -22,11 +22,13 @@ use Rattle.x696.proofs.TableRows.{SequenceRow}
 use Rattle.x696.proofs.TableKinds.{sequence_type}
 use Rattle.octets.proofs.Answered.{next_refused, next_got}
 use Rattle.pens.specs.Put.{listed_at, walk_behind, Put}
-use Rattle.pens.specs.declared.pen.Wrote.{Wrote}
 use Rattle.reading.specs.Members.{Members}
 use Rattle.reading.proofs.Members.{members_among}
 use Rattle.writing.specs.Members.{members, group_octets, PutAll}
 use Rattle.writing.proofs.InPlace.{sets_over, sets_anew}
+use Rattle.std.proofs.Common.{Result}
+use Rattle.octets.specs.declared.faults.Fault.{Fault}
+use Rattle.pens.specs.declared.pen.Pen.{Pen}
 
 components_count : (f : ℕ → Ty) (items : List ℕ) (g n : ℕ) → item_count (components_from f items g n) ≡ n
 unfolding item_count items_from
@@ -91,7 +93,7 @@ module _ (rows items ws cs : List ℕ) (row at u number : ℕ) (sound : row_soun
     unfolding encode
     octets_are vs = rw (type_is g eg)
 
-    pub components_go : (l : List ℕ) (to : ℕ) {q : ℕ} {l₁ l' : List ℕ} {r : Wrote} → l₁ ≡ sets l to (replicate ((k +
+    pub components_go : (l : List ℕ) (to : ℕ) {q : ℕ} {l₁ l' : List ℕ} {r : Result Pen Fault} → l₁ ≡ sets l to (replicate ((k +
         7) / 8) 0)
         → q ≤ to + 128
         → PutAll ws cs (among g) (listed_at ws cs (at + 1) u) to (at + 1) u q l₁ l' r

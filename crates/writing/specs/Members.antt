@@ -9,11 +9,11 @@ use Rattle.x696.specs.Types.{Ty, Items, no_items, item, mark_count}
 use Rattle.x696.specs.Encode.{presence, encode_components}
 use Rattle.x696.specs.Walk.{Listed, walk_components}
 use Rattle.x696.specs.Table.{components_from, type_of}
-use Rattle.octets.specs.declared.answers.Fault.{Fault}
+use Rattle.octets.specs.declared.faults.Fault.{Fault}
 use Rattle.pens.specs.Put.{listed_at, node_octets}
 use Rattle.pens.specs.declared.pen.Pen.{Pen}
-use Rattle.pens.specs.declared.pen.Wrote.{Wrote}
-use Rattle.pens.specs.declared.pen.Wrote.TheVariants.{Got, Refused}
+use Rattle.std.specs.Prelude.{Result, Ok, Err}
+use Rattle.octets.specs.Cause.{code_of}
 
 -- n times a type
 unfoldable pub copies : ℕ → Ty → Items
@@ -41,7 +41,7 @@ pub record PennedAll (ws cs : List ℕ) (is : Items) (s : Listed) (pre n u p : �
     pub bound : c.to + (n * node_octets + u) ≤ p + (c.at * node_octets + c.used)
     pub stored : l' ≡ sets l pre (group_octets is what)
 
-pub record PutAll (ws cs : List ℕ) (is : Items) (s : Listed) (pre n u p : ℕ) (l l' : List ℕ) (r : Wrote) : Type 0
+pub record PutAll (ws cs : List ℕ) (is : Items) (s : Listed) (pre n u p : ℕ) (l l' : List ℕ) (r : Result Pen Fault) : Type 0
   where
-    pub went : (c : Pen) → r ≡ Got c → PennedAll ws cs is s pre n u p l l' c
-    pub stopped : (f : Fault) → r ≡ Refused f → walk_components is s ≡ refused f.number f.place
+    pub went : (c : Pen) → r ≡ Ok c → PennedAll ws cs is s pre n u p l l' c
+    pub stopped : (f : Fault) → r ≡ Err f → walk_components is s ≡ refused (code_of f.cause) f.place

@@ -7,11 +7,11 @@ use Rattle.x696.specs.Types.{Ty}
 use Rattle.x696.specs.Encode.{presence_bits, own_octets}
 use Rattle.x696.specs.Walk.{Listed, walk_component}
 use Rattle.octets.specs.Presence.{with_bit}
-use Rattle.octets.specs.declared.answers.Fault.{Fault}
+use Rattle.octets.specs.declared.faults.Fault.{Fault}
 use Rattle.pens.specs.Put.{Penned}
 use Rattle.pens.specs.declared.pen.Pen.{Pen}
-use Rattle.pens.specs.declared.pen.Wrote.{Wrote}
-use Rattle.pens.specs.declared.pen.Wrote.TheVariants.{Got, Refused}
+use Rattle.std.specs.Prelude.{Result, Ok, Err}
+use Rattle.octets.specs.Cause.{code_of}
 
 -- whether node n is there and is the one that stands for a component that is not carried: ABSENT, or the DEFAULT
 unfoldable pub missing_at : (words : List ℕ) → (n kind mark default : ℕ) → Bool
@@ -43,6 +43,6 @@ pub record Noted (ws cs : List ℕ) (mark default : ℕ) (t : Ty) (s : Listed) (
       → start ≡ noted (presence_bits mark default t v) l pre b
 
 pub record Notes (ws cs : List ℕ) (mark default : ℕ) (t : Ty) (s : Listed) (pre b n u p : ℕ) (l l' : List ℕ)
-    (r : Wrote) : Type 0 where
-  pub went : (c : Pen) → r ≡ Got c → Noted ws cs mark default t s pre b n u p l l' c
-  pub stopped : (f : Fault) → r ≡ Refused f → walk_component mark t s ≡ refused f.number f.place
+    (r : Result Pen Fault) : Type 0 where
+  pub went : (c : Pen) → r ≡ Ok c → Noted ws cs mark default t s pre b n u p l l' c
+  pub stopped : (f : Fault) → r ≡ Err f → walk_component mark t s ≡ refused (code_of f.cause) f.place

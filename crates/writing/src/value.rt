@@ -18,13 +18,14 @@ ghost use Rattle.writing.specs.Members.{members, PutAll};
 ghost use Rattle.writing.specs.Noted.{Notes};
 
 use crate::parts::{is_missing, member_missing, note_presence};
+use octets::faults::{Cause, Fault};
 use octets::nodes::{node_kind, node_number};
 use octets::presence::put_zeros;
 use octets::tags::put_tag;
 use octets::units::Occurrences;
 use octets::variable::put_quantity;
 use pens::leaf::write_leaf;
-use pens::pen::{Wrote, got, refuse};
+use pens::pen::Pen;
 use reading::parts::{bit_of, count_marked, member_mark, member_row};
 use table::words::{
     alternative_row, component_row, row_count, row_first, row_kind, tag_class, tag_number,
@@ -41,7 +42,7 @@ pub fn write_value(
     used: usize,
     to: usize,
     out: &mut [u8],
-) -> Wrote
+) -> Result<Pen, Fault>
     requires { SoundTable rows.now items.now × (row < length rows.now / row_width) × (length nodes.now ≤ 8192) × (at * node_width ≤ length nodes.now) × (used ≤ length contents.now) × (length contents.now ≤ 65535) × (to ≤ 65536 + (at * node_octets + used)) }
     ensures { Put nodes.now contents.now (walk (type_of rows.now items.now row) (listed_at nodes.now contents.now at used)) (λ v. encode (type_of rows.now items.now row) v) at used to out.old out.new result }
 {
@@ -81,19 +82,16 @@ fn write_members(
     used: usize,
     to: usize,
     out: &mut [u8],
-) -> Wrote
+) -> Result<Pen, Fault>
     requires { SoundTable rows.now items.now × (above ≤ length rows.now / row_width) × Members rows.now items.now above inner listed first 0 n × (length nodes.now ≤ 8192) × (at * node_width ≤ length nodes.now) × (used ≤ length contents.now) × (length contents.now ≤ 65535) × (to ≤ 65536 + (at * node_octets + used)) × (to ≡ pre + (bit_octets (mark_count (members rows.now items.now inner listed first n)))) × (out.old ≡ sets out.old pre (replicate (bit_octets (mark_count (members rows.now items.now inner listed first n))) 0)) }
     ensures { PutAll nodes.now contents.now (members rows.now items.now inner listed first n) (listed_at nodes.now contents.now at used) pre at used to out.old out.new result }
 {
-    let mut a = at;
-    let mut u = used;
-    let mut p = to;
+    let mut pen = Pen { at, used, to };
     let mut b = 0;
-    let mut i = 0; // members written
-    while i < n {
+    for i in 0..n {
         let mark = member_mark(items, listed, first + i);
         let row = member_row(items, inner, listed, first + i);
-        match write_member(
+        pen = write_member(
             rows,
             items,
             above,
@@ -104,24 +102,14 @@ fn write_members(
             contents,
             pre,
             b,
-            a,
-            u,
-            p,
+            pen.at,
+            pen.used,
+            pen.to,
             out,
-        ) {
-            Wrote::Got(next) => {
-                a = next.at;
-                u = next.used;
-                p = next.to;
-            }
-            Wrote::Refused(f) => {
-                return Wrote::Refused(f);
-            }
-        }
+        )?;
         b += bit_of(mark);
-        i += 1;
     }
-    got(a, u, p)
+    Ok(pen)
 }
 
 // One member, a component with presence bit b of the preamble at `pre`: its bit set and its octets, or neither where its node stands for
@@ -142,12 +130,16 @@ fn write_member(
     used: usize,
     to: usize,
     out: &mut [u8],
-) -> Wrote
+) -> Result<Pen, Fault>
     requires { SoundTable rows.now items.now × (above ≤ length rows.now / row_width) × Member rows.now items.now above row mark i b × (length nodes.now ≤ 8192) × (at * node_width ≤ length nodes.now) × (used ≤ length contents.now) × (length contents.now ≤ 65535) × (to ≤ 65536 + (at * node_octets + used)) × (pre ≤ to) }
     ensures { Notes nodes.now contents.now mark (component_default items.now i) (type_of rows.now items.now row) (listed_at nodes.now contents.now at used) pre b at used to out.old out.new result }
 {
     if member_missing(rows, items, row, mark, i, nodes, at) {
-        return got(at + 1, used, to);
+        return Ok(Pen {
+            at: at + 1,
+            used,
+            to,
+        });
     }
     note_presence(out, pre, b, mark);
     write_row(rows, items, row, nodes, contents, at, used, to, out)
@@ -165,24 +157,20 @@ fn write_row(
     used: usize,
     to: usize,
     out: &mut [u8],
-) -> Wrote
+) -> Result<Pen, Fault>
     requires { SoundTable rows.now items.now × (row < length rows.now / row_width) × (length nodes.now ≤ 8192) × (at * node_width ≤ length nodes.now) × (used ≤ length contents.now) × (length contents.now ≤ 65535) × (to ≤ 65536 + (at * node_octets + used)) }
     ensures { Put nodes.now contents.now (walk (type_of rows.now items.now row) (listed_at nodes.now contents.now at used)) (λ v. encode (type_of rows.now items.now row) v) at used to out.old out.new result }
 {
     if nodes.len() / 2 <= at {
-        return refuse(11, at);
+        return Err(Cause::BadList.at(at));
     }
     let kind = row_kind(rows, row);
     if node_kind(nodes, at) != kind {
-        return refuse(11, at);
+        return Err(Cause::BadList.at(at));
     }
     let number = node_number(nodes, at);
     if kind < 10 {
-        // made anew, so that it stays in registers
-        return match write_leaf(rows, items, row, number, contents, at, used, to, out) {
-            Wrote::Refused(f) => Wrote::Refused(f),
-            Wrote::Got(p) => got(p.at, p.used, p.to),
-        };
+        return write_leaf(rows, items, row, number, contents, at, used, to, out);
     }
     if kind == 10 {
         return write_sequence(rows, items, row, number, nodes, contents, at, used, to, out);
@@ -206,13 +194,13 @@ fn write_sequence(
     used: usize,
     to: usize,
     out: &mut [u8],
-) -> Wrote
+) -> Result<Pen, Fault>
     requires { SoundTable rows.now items.now × (row < length rows.now / row_width) × (length nodes.now ≤ 8192) × (suc at * node_width ≤ length nodes.now) × (used ≤ length contents.now) × (length contents.now ≤ 65535) × (to ≤ 65536 + (at * node_octets + used)) × (row_kind rows.now row ≡ 10) }
     ensures { Put nodes.now contents.now (walk_behind (type_of rows.now items.now row) at number (listed_at nodes.now contents.now (suc at) used)) (λ v. encode (type_of rows.now items.now row) v) at used to out.old out.new result }
 {
     let n = row_count(rows, row);
     if number != n {
-        return refuse(11, at);
+        return Err(Cause::BadList.at(at));
     }
     let first = row_first(rows, row) as usize;
     let octets = (count_marked(items, first, n as usize) + 7) / 8;
@@ -248,7 +236,7 @@ fn write_sequence_of(
     used: usize,
     to: usize,
     out: &mut [u8],
-) -> Wrote
+) -> Result<Pen, Fault>
     requires { SoundTable rows.now items.now × (row < length rows.now / row_width) × (length nodes.now ≤ 8192) × (suc at * node_width ≤ length nodes.now) × (used ≤ length contents.now) × (length contents.now ≤ 65535) × (to ≤ 65536 + (at * node_octets + used)) × (row_kind rows.now row ≡ 11) }
     ensures { Put nodes.now contents.now (walk_behind (type_of rows.now items.now row) at number (listed_at nodes.now contents.now (suc at) used)) (λ v. encode (type_of rows.now items.now row) v) at used to out.old out.new result }
 {
@@ -285,12 +273,12 @@ fn write_choice(
     used: usize,
     to: usize,
     out: &mut [u8],
-) -> Wrote
+) -> Result<Pen, Fault>
     requires { SoundTable rows.now items.now × (row < length rows.now / row_width) × (length nodes.now ≤ 8192) × (suc at * node_width ≤ length nodes.now) × (used ≤ length contents.now) × (length contents.now ≤ 65535) × (to ≤ 65536 + (at * node_octets + used)) × (row_kind rows.now row ≡ 12) }
     ensures { Put nodes.now contents.now (walk_behind (type_of rows.now items.now row) at number (listed_at nodes.now contents.now (suc at) used)) (λ v. encode (type_of rows.now items.now row) v) at used to out.old out.new result }
 {
     if row_count(rows, row) <= number {
-        return refuse(11, at);
+        return Err(Cause::BadList.at(at));
     }
     let i = row_first(rows, row) as usize + number as usize;
     let p = put_tag(out, to, tag_class(items, i), tag_number(items, i));
@@ -326,7 +314,7 @@ pub fn write_component(
     used: usize,
     to: usize,
     out: &mut [u8],
-) -> Wrote
+) -> Result<Pen, Fault>
     requires { SoundTable rows.now items.now × (row < length rows.now / row_width) × (length nodes.now ≤ 8192) × (at * node_width ≤ length nodes.now) × (used ≤ length contents.now) × (length contents.now ≤ 65535) × (to ≤ 65536 + (at * node_octets + used)) × ((1 < mark) → default_sound (type_of rows.now items.now row) «default» ≡ true) }
     ensures { Put nodes.now contents.now (walk_component mark (type_of rows.now items.now row) (listed_at nodes.now contents.now at used)) (λ v. own_octets mark «default» (type_of rows.now items.now row) v) at used to out.old out.new result }
 {
@@ -334,7 +322,11 @@ pub fn write_component(
         return write_value(rows, items, row, nodes, contents, at, used, to, out);
     }
     if is_missing(nodes, at, row_kind(rows, row), mark, default) {
-        return got(at + 1, used, to);
+        return Ok(Pen {
+            at: at + 1,
+            used,
+            to,
+        });
     }
     write_value(rows, items, row, nodes, contents, at, used, to, out)
 }

@@ -4,6 +4,7 @@
 -- The answer of `write_row` is the outcome of walking a value: its node, then by the row's kind.
 -- The answer of `write_sequence` is the outcome of walking a SEQUENCE behind its node: one law for each return.
 -- The answer of `write_sequence_of` is the outcome of walking a SEQUENCE OF behind its node.
+use Rattle.std.proofs.lemmas.Result.{err_from_is_err_and}
 use Prim.Native.Nat.{◌<◌, ◌≤◌}
 use mathlib.Core.Path.{refl, ◌≡◌, sym, ◌∙◌}
 use native.Mathlib.Omega.{arith}
@@ -26,7 +27,7 @@ write_choice-returns-then-row_count-number t c =
     let sound = c.requires.0.row c.args.row c.requires.1 in
     Putting.put_refused (Alternatives.place_none _ _ c.args.nodes.now c.args.contents.now _ _
     c.args.used _ sound c.requires.7 _
-    c.row_count.ensures c.if-row_count-number.true) c.refuse.ensures
+    c.row_count.ensures c.if-row_count-number.true) c.at.ensures
 
 pub write_choice-overflow_add-i : goal.write_choice-overflow_add-i
 write_choice-overflow_add-i t c =
@@ -111,14 +112,14 @@ write_member-member_missing-requires t c = (
   ),
 )
 
-pub write_member-overflow_add-at : goal.write_member-overflow_add-at
-write_member-overflow_add-at t c = omega (arith, c.requires.3, c.requires.4)
+pub write_member-overflow_add-result : goal.write_member-overflow_add-result
+write_member-overflow_add-result t c = omega (arith, c.requires.3, c.requires.4)
 
 pub write_member-returns-then-member_missing : goal.write_member-returns-then-member_missing
 write_member-returns-then-member_missing t c =
     let sound = c.requires.0.row c.args.row (omega (arith, c.requires.2.lower, c.requires.1)) in
     Components.member_missing _ _ _ _ _ _ _ _ _ _ _ _ _ c.requires.2 sound _ c.member_missing.ensures
-    c.if-member_missing.true c.requires.5 c.got.ensures
+    c.if-member_missing.true c.requires.5 refl
 
 pub write_member-note_presence-requires : goal.write_member-note_presence-requires
 write_member-note_presence-requires t c = (
@@ -156,7 +157,6 @@ write_member-returns t c =
 
 pub write_members-loop-i-init : goal.write_members-loop-i-init
 write_members-loop-i-init t c = (
-  search rules,
   refl,
   (
     c.requires.4,
@@ -204,7 +204,7 @@ write_members-overflow_add-first-in-loop-i-2 t c =
 pub write_members-write_member-requires : goal.write_members-write_member-requires
 write_members-write_member-requires t c =
     let one = Laws.member_known c.requires.2 c.loop-i.i c.loop-i-test.true c.loop-i.b
-    (omega (arith, c.loop-i.invariant.2.4)) _ _ c.member_mark-mark.ensures c.member_row-row.ensures in
+    (omega (arith, c.loop-i.invariant.1.4)) _ _ c.member_mark-mark.ensures c.member_row-row.ensures in
     let lt = one.lower in (
       omega (arith, lt),
       (
@@ -212,44 +212,44 @@ write_members-write_member-requires t c =
         c.requires.1,
         one,
         c.requires.3,
-        c.loop-i.invariant.2.0,
-        c.loop-i.invariant.2.1,
+        c.loop-i.invariant.1.0,
+        c.loop-i.invariant.1.1,
         c.requires.6,
-        omega (arith, c.loop-i.invariant.2.2, c.requires.7),
-        c.loop-i.invariant.2.3,
+        omega (arith, c.loop-i.invariant.1.2, c.requires.7),
+        c.loop-i.invariant.1.3,
       ),
     )
 
-pub write_members-returns-in-Refused : goal.write_members-returns-in-Refused
-write_members-returns-in-Refused t c =
-    Members.members_stop _ _ c.args.nodes.now c.args.contents.now _ _ _ _ _ c.args.at
-    c.args.used _ c.loop-i.a c.loop-i.u c.loop-i.invariant.2.6 c.loop-i-test.true
+pub write_members-returns-in_err-pen : goal.write_members-returns-in_err-pen
+write_members-returns-in_err-pen t c =
+    let p = err_from_is_err_and c.from_residual.result c.from_residual.ensures.1 in
+    rw (p.1, p.2) (Members.members_stop _ _ c.args.nodes.now c.args.contents.now _ _ _ _ _ c.args.at
+    c.args.used _ c.loop-i.pen.at c.loop-i.pen.used c.loop-i.invariant.1.6 c.loop-i-test.true
     c.member_mark-mark.ensures c.member_row-row.ensures (c.write_member.ensures.stopped _
-    c.in-Refused.is)
+    c.in_err-pen.was))
 
 pub write_members-overflow_add-b : goal.write_members-overflow_add-b
-write_members-overflow_add-b t c = omega (arith, c.loop-i.invariant.2.4, c.bit_of-b.ensures.1, c.loop-i-test.true)
+write_members-overflow_add-b t c = omega (arith, c.loop-i.invariant.1.4, c.bit_of-b.ensures.1, c.loop-i-test.true)
 
 pub write_members-loop-i-preserved : goal.write_members-loop-i-preserved
 write_members-loop-i-preserved t c = (
   search rules,
-  search rules,
-  let w = c.write_member.ensures.went _ c.in-Got.is in
+  let w = c.write_member.ensures.went _ c.in_ok-pen.was in
       let g = w.goes in (
         g.inside,
         g.within,
-        omega (arith, g.bound, c.loop-i.invariant.2.2),
+        omega (arith, g.bound, c.loop-i.invariant.1.2),
         omega (
           arith,
           g.ends,
-          c.loop-i.invariant.2.3,
+          c.loop-i.invariant.1.3,
         ),
-        omega (arith, c.loop-i.invariant.2.4, c.bit_of-b.ensures.1),
-        Members.marks_again _ _ _ _ _ _ c.loop-i.i c.loop-i.b c.loop-i-test.true c.loop-i.invariant.2.5
+        omega (arith, c.loop-i.invariant.1.4, c.bit_of-b.ensures.1),
+        Members.marks_again _ _ _ _ _ _ c.loop-i.i c.loop-i.b c.loop-i-test.true c.loop-i.invariant.1.5
             c.member_mark-mark.ensures c.bit_of-b.ensures.0,
         Members.member_goes _ _ c.args.nodes.now c.args.contents.now _ _ _ _ _ c.args.at
-            c.args.used _ c.loop-i.a c.loop-i.u c.loop-i.invariant.2.6 c.loop-i-test.true
-            c.loop-i.invariant.2.5
+            c.args.used _ c.loop-i.pen.at c.loop-i.pen.used c.loop-i.invariant.1.6 c.loop-i-test.true
+            c.loop-i.invariant.1.5
             c.member_mark-mark.ensures c.member_row-row.ensures c.bit_of-b.ensures.0 w,
       ),
 )
@@ -257,21 +257,21 @@ write_members-loop-i-preserved t c = (
 pub write_members-returns : goal.write_members-returns
 write_members-returns t c =
     Members.members_done _ _ c.args.nodes.now c.args.contents.now _ _ _ _ _ c.args.at
-    c.args.used _ c.loop-i.a c.loop-i.u c.loop-i.invariant.2.6 c.loop-i-test.false
-    c.loop-i.invariant.2.5 c.loop-i.invariant.2.0 c.loop-i.invariant.2.1
-    c.loop-i.invariant.2.2 c.got.ensures
+    c.args.used _ c.loop-i.pen.at c.loop-i.pen.used c.loop-i.invariant.1.6 c.loop-i-test.false
+    c.loop-i.invariant.1.5 c.loop-i.invariant.1.0 c.loop-i.invariant.1.1
+    c.loop-i.invariant.1.2 refl
 
 pub write_row-returns-then-nodes-at : goal.write_row-returns-then-nodes-at
 write_row-returns-then-nodes-at t c =
     Putting.put_refused (NodeTests.value_lacks _ _ c.args.contents.now _ c.args.used
-    c.if-nodes-at.true) c.refuse.ensures
+    c.if-nodes-at.true) c.at.ensures
 
 pub write_row-returns-then-node_kind-kind : goal.write_row-returns-then-node_kind-kind
 write_row-returns-then-node_kind-kind t c =
     let sound = c.requires.0.row c.args.row c.requires.1 in
     Putting.put_refused (NodeTests.row_other _ _ _ sound _ c.args.contents.now _ c.args.used
     c.if-nodes-at.false c.row_kind-kind.ensures
-    c.node_kind.ensures c.if-node_kind-kind.true) c.refuse-then-node_kind-kind.ensures
+    c.node_kind.ensures c.if-node_kind-kind.true) c.at-then-node_kind-kind.ensures
 
 pub write_row-write_leaf-requires : goal.write_row-write_leaf-requires
 write_row-write_leaf-requires t c =
@@ -285,23 +285,13 @@ write_row-write_leaf-requires t c =
       c.requires.6,
     )
 
-pub write_row-returns-in-Refused : goal.write_row-returns-in-Refused
-write_row-returns-in-Refused t c =
+pub write_row-returns-then-kind-lt10 : goal.write_row-returns-then-kind-lt10
+write_row-returns-then-kind-lt10 t c =
     let sound = c.requires.0.row c.args.row c.requires.1 in
-    let put = c.write_leaf.ensures c.args.nodes.now (omega (arith, c.if-nodes-at.false)) in
     Putting.put_by (NodeTests.row_behind _ _ _ sound _ c.args.contents.now _ c.args.used
     c.if-nodes-at.false c.row_kind-kind.ensures c.node_kind.ensures
     c.if-node_kind-kind.false c.node_number-number.ensures)
-    (Putting.put_fault _ (put.stopped _ c.in-Refused.is))
-
-pub write_row-returns-in-Got : goal.write_row-returns-in-Got
-write_row-returns-in-Got t c =
-    let sound = c.requires.0.row c.args.row c.requires.1 in
-    let put = c.write_leaf.ensures c.args.nodes.now (omega (arith, c.if-nodes-at.false)) in
-    Putting.put_by (NodeTests.row_behind _ _ _ sound _ c.args.contents.now _ c.args.used
-    c.if-nodes-at.false c.row_kind-kind.ensures c.node_kind.ensures
-    c.if-node_kind-kind.false c.node_number-number.ensures)
-    (Putting.put_penned (put.went _ c.in-Got.is) c.got.ensures)
+    (c.write_leaf.ensures c.args.nodes.now (omega (arith, c.if-nodes-at.false)))
 
 pub write_row-write_sequence-requires : goal.write_row-write_sequence-requires
 write_row-write_sequence-requires t c = (
@@ -380,7 +370,7 @@ write_sequence-returns-then-number-n t c =
     let sound = c.requires.0.row c.args.row c.requires.1 in
     Putting.put_refused (Sequences.count_other _ _ c.args.nodes.now c.args.contents.now _ _
     c.args.used _ sound c.requires.7 _ c.row_count-n.ensures
-    c.if-number-n.true) c.refuse.ensures
+    c.if-number-n.true) c.at.ensures
 
 pub write_sequence-count_marked-requires : goal.write_sequence-count_marked-requires
 write_sequence-count_marked-requires t c =

@@ -1,6 +1,5 @@
 -- The measures of the six writers: the row number falls at each descent; `write_members` is below the row bound `above`,
--- the others at their own row. Invariant of the loop: what is left of the members is to the whole as `MembersLeft` says;
--- measure: the members left.
+-- the others at their own row. Invariant of the loop: what is left of the members is to the whole as `MembersLeft` says.
 use Prim.Native.Nat.{◌≤◌, ◌+◌, ◌-◌, ◌*◌}
 use mathlib.Core.Path.{◌≡◌}
 use lib.ListN.{length}
@@ -28,11 +27,8 @@ abbrev pub decreases-write_sequence_of : goal.decreases-write_sequence_of
 decreases-write_sequence_of l = l.row * 4 + 1
 
 abbrev pub invariant-write_members-loop-i : goal.invariant-write_members-loop-i
-invariant-write_members-loop-i l = (l.i ≤ l.n) × (length l.out ≡ length l.initial.out)
-    × ((l.a * node_width ≤ length l.nodes) × (l.u ≤ length l.contents)
-    × (l.p + (l.at * node_octets + l.used) ≤ l.to + (l.a * node_octets + l.u)) × (l.pre ≤ l.p)
+invariant-write_members-loop-i l = (length l.out ≡ length l.initial.out)
+    × ((l.pen.at * node_width ≤ length l.nodes) × (l.pen.used ≤ length l.contents)
+    × (l.pen.to + (l.at * node_octets + l.used) ≤ l.to + (l.pen.at * node_octets + l.pen.used)) × (l.pre ≤ l.pen.to)
     × (l.b ≤ l.i) × (l.b + marks_left l.rows l.items l.inner l.listed l.first l.n l.i ≡ marks_left l.rows l.items l.inner l.listed l.first l.n 0)
-    × MembersLeft l.rows l.items l.nodes l.contents l.initial.out l.inner l.listed l.pre l.first l.n l.initial.a l.initial.u l.i l.b l.a l.u l.p l.out)
-
-abbrev pub decreases-write_members-loop-i : goal.decreases-write_members-loop-i
-decreases-write_members-loop-i l = l.n - l.i
+    × MembersLeft l.rows l.items l.nodes l.contents l.initial.out l.inner l.listed l.pre l.first l.n l.initial.pen.at l.initial.pen.used l.i l.b l.pen.at l.pen.used l.pen.to l.out)

@@ -1,5 +1,6 @@
 -- The answer of `write_component` is the outcome of walking one component: one law for each return.
 -- Assumes nothing.
+use mathlib.Core.Path.{refl}
 use mathlib.Core.Path.{sym, ◌∙◌}
 use Rattle.x696.proofs.TableRows.{kind_known}
 use Rattle.writing.proofs.NodeTests
@@ -15,7 +16,7 @@ returns-then-is_missing c =
     let kind = c.row_kind.ensures ∙ sym (NodeTests.kind_is _ _ _ sound) in
     Components.component_missing _ _ _ _ _ _ _ _ _ kind c.if-mark-eq0.false (sym c.is_missing.ensures ∙
     c.if-is_missing.true)
-    c.requires.7 c.requires.4 c.got.ensures
+    c.requires.7 c.requires.4 refl
 
 pub returns : goal.returns
 returns c =
