@@ -20,25 +20,30 @@ use Rattle.x696.specs.Table.{row_width, type_of}
 use Rattle.x696.specs.TableFault.{sound, table_fault}
 use Rattle.x696.specs.Operations.{node_limit, octet_limit, asked, walk_list, result_fits, room_for, over, octets_for, measure, written}
 use Rattle.x696.specs.Operations.{encode_list}
-use Rattle.table.specs.Replies.{as_reply}
+use Rattle.table.specs.Replies.{as_reply, as_answer, refused_reply}
 use Rattle.table.specs.declared.reply.Reply.{Reply}
 use Rattle.octets.proofs.Answered.{next_refused, next_got}
+use Rattle.octets.specs.Part.{part_of, refused as refusing}
+use Rattle.octets.specs.declared.faults.Cause.{Cause}
+use Rattle.octets.specs.declared.faults.Cause.TheVariants.{Long, Room}
+use Rattle.octets.specs.declared.faults.Part.{Part}
+use Rattle.octets.specs.declared.faults.Part.TheVariants.{List as ListPart, Result as ResultPart}
+use Rattle.octets.specs.declared.faults.Refusal.{Refusal}
+use Rattle.octets.specs.declared.faults.Fault.{Fault}
 use Rattle.decoding.specs.Replied.{Refuses}
 use Rattle.pens.specs.Put.{listed_at, Penned, Put}
 use Rattle.pens.specs.declared.pen.Pen.{Pen}
-use Rattle.pens.specs.declared.pen.Wrote.{Wrote}
-use Rattle.pens.specs.declared.pen.Wrote.TheVariants.{Got, Refused}
 use Rattle.encoding.specs.Measures.{Accepted, ListAnswer, Fitting, OctetsAnswer, Writes}
-use Rattle.encoding.specs.declared.lists.Measured.TheVariants.{Got as Has, Refused as Lacks}
 use Rattle.writing.proofs.Missing.{plain_walk, plain_octets}
+use Rattle.std.proofs.Common.{Result, Ok, Err}
+use Rattle.octets.specs.Cause.{code_of}
+use Rattle.octets.specs.declared.faults.Fault.{Fault}
 
 zero_one : {A : Type 0} → ◌≡◌ {A = ℕ} 0 1 → A
 zero_one e = absurd (omega arith)
 
-refuses : {A : Type 0} {a : Answer A} {n q p : ℕ} {x y : Reply} → a ≡ refusal n q p → x ≡ as_reply (refusal_reply n q p)
-    → Lacks x ≡ Lacks y → Refuses a y
-refuses {n = n} {q} {p} {x} {y} e h f =
-    let w : x ≡ y = cc in record { number = n; part = q; place = p; is = e; reply = sym w ∙ h }
+refuses_as : {A : Type 0} {a : Answer A} {x y : Refusal} → a ≡ as_answer x → ◌≡◌ {A = Result ℕ Refusal} (Err x) (Err y) → Refuses a y
+refuses_as {x = x} {y} e f = let w : x ≡ y = cc in rw (← w) (record { is = e })
 
 -- stores over the front of a buffer that has room
 sets_whole : (vs l : List ℕ) → length vs ≤ length l → sets l 0 vs ≡ vs ++ drop (length vs) l
@@ -49,10 +54,10 @@ module _ (m : ℕ) (t : Ty) (ws cs : List ℕ) where
   abbrev O : Outcome Listed Val
   O = walk_component m t (list_at ws cs 0)
 
-  pub list_stop : {d n p : ℕ} {x : Reply} → walk_list m t ws cs ≡ refused n p → x ≡ as_reply (refusal_reply n 2 p)
-      → ListAnswer m d t ws cs (Lacks x)
+  pub list_stop : {d p : ℕ} {k : Cause} {x : Refusal} → walk_list m t ws cs ≡ refused (code_of k) p
+      → x ≡ refusing k ListPart p → ListAnswer m d t ws cs (Err x)
   unfolding in_part
-  list_stop e h = record { went = λ n z. zero_one cc; stopped = λ y z. refuses (rw e) h z }
+  list_stop e h = rw h (record { went = λ n z. zero_one cc; stopped = λ y z. refuses_as (rw e) z })
 
   pub list_odd : (length ws % 2 ≡ 0 → ⊥) → walk_list m t ws cs ≡ refused 11 (length ws / 2)
   unfolding walk_list must
@@ -114,7 +119,7 @@ module _ (m : ℕ) (t : Ty) (ws cs : List ℕ) where
                 let some : length (drop c.used cs) ≡ 0 → ⊥ = λ z. omega (arith, z, length-drop c.used cs) in
                 walked ∙ next_got _ g.walks ∙ rw (no_words, ne_eqb (length (drop c.used cs)) 0 some)
 
-            pub list_done : length cs ≤ c.used → ListAnswer m d t ws cs (Has c.to)
+            pub list_done : length cs ≤ c.used → ListAnswer m d t ws cs (Ok c.to)
             unfolding must
             list_done h =
                 let none = eq-eqb (length (drop c.used cs)) 0 (omega (arith, length-drop c.used cs)) in
@@ -140,20 +145,20 @@ module _ (rows items : List ℕ) (row : ℕ) (ws cs : List ℕ) where
   abbrev T : Ty
   T = type_of rows items row
 
-  octets_refused : {n q p : ℕ} {x : Reply} → octets_for rows items row ws cs ≡ refusal n q p
-      → x ≡ as_reply (refusal_reply n q p) → OctetsAnswer rows items row ws cs (Lacks x)
-  octets_refused e h = record { went = λ n z. zero_one cc; stopped = λ y z. refuses e h z }
+  octets_refused : {x : Refusal} → octets_for rows items row ws cs ≡ as_answer x
+      → OctetsAnswer rows items row ws cs (Err x)
+  octets_refused e = record { went = λ n z. zero_one cc; stopped = λ y z. refuses_as e z }
 
-  pub octets_table : {x : Reply} → Refuses (asked rows items row) x → OctetsAnswer rows items row ws cs (Lacks x)
+  pub octets_table : {x : Refusal} → Refuses (asked rows items row) x → OctetsAnswer rows items row ws cs (Err x)
   unfolding octets_for then
-  octets_table r = octets_refused (rw r.is) r.reply
+  octets_table r = octets_refused (rw r.is)
 
   module _ (ready : (table_fault rows items ≡ sound) × (row < length rows / row_width) × (asked rows items row ≡ done
       T)) where
-    pub octets_list : {x : Reply} → Refuses (in_part 2 (walk_list 0 T ws cs)) x → OctetsAnswer rows items row ws cs
-        (Lacks x)
+    pub octets_list : {x : Refusal} → Refuses (in_part 2 (walk_list 0 T ws cs)) x → OctetsAnswer rows items row ws cs
+        (Err x)
     unfolding octets_for then
-    octets_list r = octets_refused (rw (ready.2, r.is)) r.reply
+    octets_list r = octets_refused (rw (ready.2, r.is))
 
     module _ {n : ℕ} (g : Accepted 0 0 T ws cs n) where
       count_is : n ≡ length (encode T g.what)
@@ -163,13 +168,14 @@ module _ (rows items : List ℕ) (row : ℕ) (ws cs : List ℕ) where
       unfolding octets_for then in_part
       listed_is = rw (ready.2, g.whole)
 
-      pub octets_long : {x : Reply} → 65535 < n → x ≡ as_reply (refusal_reply 4 4 0) → OctetsAnswer rows items row ws
-          cs (Lacks x)
+      pub octets_long : {x : Refusal} → 65535 < n → x ≡ refusing Long ResultPart 0 → OctetsAnswer rows items row ws
+          cs (Err x)
       unfolding result_fits unless
-      octets_long h e = octets_refused (listed_is ∙ rw (lt-leb (length (encode T g.what)) octet_limit
-          (rw (← count_is) h))) e
+      octets_long h e =
+          rw e (octets_refused
+          (listed_is ∙ rw (lt-leb (length (encode T g.what)) octet_limit (rw (← count_is) h))))
 
-      pub octets_got : n ≤ 65535 → OctetsAnswer rows items row ws cs (Has n)
+      pub octets_got : n ≤ 65535 → OctetsAnswer rows items row ws cs (Ok n)
       unfolding result_fits unless
       octets_got h = record {
         went = λ k z.
@@ -184,10 +190,10 @@ module _ (rows items : List ℕ) (row : ℕ) (ws cs : List ℕ) where
       }
 
   -- ---- the replies
-  pub measure_stop : {x : Reply} → Refuses (octets_for rows items row ws cs) x → x ≡ as_reply (measure rows items row
-      ws cs)
+  pub measure_stop : {x : Refusal} {q : Reply} → Refuses (octets_for rows items row ws cs) x → q ≡ refused_reply x
+      → q ≡ as_reply (measure rows items row ws cs)
   unfolding measure answer
-  measure_stop r = r.reply ∙ rw r.is
+  measure_stop r e = e ∙ rw r.is
 
   module _ {n : ℕ} (g : Fitting rows items row ws cs n) where
     fitting_count : n ≡ length (encode T g.list.what)
@@ -198,23 +204,23 @@ module _ (rows items : List ℕ) (row : ℕ) (ws cs : List ℕ) where
     measure_done e = e ∙ rw (g.is, fitting_count)
 
     module _ (out : List ℕ) where
-      pub encode_room : length out < n → {x : Reply} → x ≡ as_reply (refusal_reply 12 4 0)
-          → Writes (encode_list rows items row ws cs out) out x
+      pub encode_room : length out < n → {x : Refusal} {q : Reply} → x ≡ refusing Room ResultPart 0
+          → q ≡ refused_reply x → Writes (encode_list rows items row ws cs out) out q
       unfolding encode_list written then room_for unless answer
-      encode_room h e =
+      encode_room h e k =
           rw (g.is, lt-leb (length (encode T g.list.what)) (length out) (rw (← fitting_count) h))
-          (record { reply = e; stored = refl })
+          (record { reply = k ∙ rw e; stored = refl })
 
       -- written again with the buffer lent: the octets stand at its front
-      pub encode_done : n ≤ length out → {out' : List ℕ} (r : Wrote)
+      pub encode_done : n ≤ length out → {out' : List ℕ} (r : Result Pen Fault)
           → Put ws cs (walk T (listed_at ws cs 0 0)) (λ v. encode T v) 0 0 0 out out' r
           → {x : Reply} → x ≡ as_reply (done_reply 0 n) → Writes (encode_list rows items row ws cs out) out' x
       unfolding encode_list written then room_for unless answer over
-      encode_done h (Refused f) w e =
-          let z : got g.list.what g.list.end ≡ refused f.number f.place =
+      encode_done h (Err f) w e =
+          let z : got g.list.what g.list.end ≡ refused (code_of f.cause) f.place =
           sym g.list.walks ∙ plain_walk 0 T 0 (list_at ws cs 0) refl ∙ w.stopped f refl in
           zero_one cc
-      encode_done h (Got d) w e =
+      encode_done h (Ok d) w e =
           let k = w.went d refl in
           let q : got g.list.what g.list.end ≡ got k.what (listed_at ws cs d.at d.used) =
           sym g.list.walks ∙ plain_walk 0 T 0 (list_at ws cs 0) refl ∙ k.walks in
@@ -226,7 +232,7 @@ module _ (rows items : List ℕ) (row : ℕ) (ws cs : List ℕ) where
             stored = k.stored ∙ rw v (sets_whole (encode T g.list.what) out room);
           })
 
-  pub encode_stop : {x : Reply} → Refuses (octets_for rows items row ws cs) x → (out : List ℕ)
-      → Writes (encode_list rows items row ws cs out) out x
+  pub encode_stop : {x : Refusal} {q : Reply} → Refuses (octets_for rows items row ws cs) x → q ≡ refused_reply x
+      → (out : List ℕ) → Writes (encode_list rows items row ws cs out) out q
   unfolding encode_list written then answer
-  encode_stop r out = rw r.is (record { reply = r.reply; stored = refl })
+  encode_stop r e out = rw r.is (record { reply = e; stored = refl })

@@ -1,7 +1,7 @@
 -- What the operations' parts answer, in the terms of `Answer`: the octets that a whole value list comes to, or the
 -- refusal.
 -- Assumes nothing.
-use Rattle.std.specs.Prelude.{◌≡◌, List, ℕ, ◌*◌, ◌/◌, ◌<◌, ◌≤◌, length}
+use Rattle.std.specs.Prelude.{Result, Ok, Err, ◌≡◌, List, ℕ, ◌*◌, ◌/◌, ◌<◌, ◌≤◌, length}
 use Rattle.x696.specs.Outcome.{got}
 use Rattle.x696.specs.Value.{Val, node_width}
 use Rattle.x696.specs.Types.{Ty}
@@ -13,9 +13,8 @@ use Rattle.x696.specs.TableFault.{sound, table_fault}
 use Rattle.x696.specs.Operations.{node_limit, octet_limit, walk_list, octets_for, Written}
 use Rattle.table.specs.Replies.{as_reply}
 use Rattle.table.specs.declared.reply.Reply.{Reply}
+use Rattle.octets.specs.declared.faults.Refusal.{Refusal}
 use Rattle.decoding.specs.Replied.{Refuses}
-use Rattle.encoding.specs.declared.lists.Measured.{Measured}
-use Rattle.encoding.specs.declared.lists.Measured.TheVariants.{Got, Refused}
 
 -- a whole list is that of a value, which comes to n octets as a component with this mark and default
 pub record Accepted (mark default : ℕ) (t : Ty) (ws cs : List ℕ) (n : ℕ) : Type 0 where
@@ -27,9 +26,9 @@ pub record Accepted (mark default : ℕ) (t : Ty) (ws cs : List ℕ) (n : ℕ) :
   pub short : length cs ≤ octet_limit
   pub octets : n ≡ length (own_octets mark default t what)
 
-pub record ListAnswer (mark default : ℕ) (t : Ty) (ws cs : List ℕ) (r : Measured) : Type 0 where
-  pub went : (n : ℕ) → r ≡ Got n → Accepted mark default t ws cs n
-  pub stopped : (x : Reply) → r ≡ Refused x → Refuses (in_part 2 (walk_list mark t ws cs)) x
+pub record ListAnswer (mark default : ℕ) (t : Ty) (ws cs : List ℕ) (r : Result ℕ Refusal) : Type 0 where
+  pub went : (n : ℕ) → r ≡ Ok n → Accepted mark default t ws cs n
+  pub stopped : (x : Refusal) → r ≡ Err x → Refuses (in_part 2 (walk_list mark t ws cs)) x
 
 -- the same for a row that is asked for, and a result that is not too long
 pub record Fitting (rows items : List ℕ) (row : ℕ) (ws cs : List ℕ) (n : ℕ) : Type 0 where
@@ -38,9 +37,9 @@ pub record Fitting (rows items : List ℕ) (row : ℕ) (ws cs : List ℕ) (n : �
   pub list : Accepted 0 0 (type_of rows items row) ws cs n
   pub is : octets_for rows items row ws cs ≡ done (encode (type_of rows items row) list.what)
 
-pub record OctetsAnswer (rows items : List ℕ) (row : ℕ) (ws cs : List ℕ) (r : Measured) : Type 0 where
-  pub went : (n : ℕ) → r ≡ Got n → Fitting rows items row ws cs n
-  pub stopped : (x : Reply) → r ≡ Refused x → Refuses (octets_for rows items row ws cs) x
+pub record OctetsAnswer (rows items : List ℕ) (row : ℕ) (ws cs : List ℕ) (r : Result ℕ Refusal) : Type 0 where
+  pub went : (n : ℕ) → r ≡ Ok n → Fitting rows items row ws cs n
+  pub stopped : (x : Refusal) → r ≡ Err x → Refuses (octets_for rows items row ws cs) x
 
 -- an operation with a result: the reply, and what the lent buffer then holds
 pub record Writes (w : Written) (out : List ℕ) (r : Reply) : Type 0 where

@@ -5,15 +5,8 @@ ghost use Rattle.x696.specs.TableCheck.{default_sound};
 ghost use Rattle.x696.specs.SoundTable.{SoundTable};
 ghost use Rattle.encoding.specs.Measures.{ListAnswer};
 
-use pens::pen::Wrote;
-use table::reply::{Reply, refusal};
+use octets::faults::{Cause, Part, Refusal};
 use writing::value::write_component;
-
-#[derive(Clone, Copy)]
-pub enum Measured {
-    Got(usize),
-    Refused(Reply),
-}
 
 // A list for a component with its mark and default: an odd word 11, 10, 4, the walk, left over nodes 11, left over contents 11.
 pub fn survey_list(
@@ -24,20 +17,20 @@ pub fn survey_list(
     default: u64,
     nodes: &[u64],
     contents: &[u8],
-) -> Measured
+) -> Result<usize, Refusal>
     requires { SoundTable rows.now items.now × (row < length rows.now / row_width) × ((1 < mark) → default_sound (type_of rows.now items.now row) «default» ≡ true) }
     ensures { ListAnswer mark «default» (type_of rows.now items.now row) nodes.now contents.now result }
 {
     let count = nodes.len() / 2;
     if nodes.len() % 2 != 0 {
-        return Measured::Refused(refusal(11, 2, count as u64));
+        return Err(Cause::BadList.at(count).in_part(Part::List));
     }
     if 4096 < count {
-        return Measured::Refused(refusal(10, 2, 0));
+        return Err(Cause::Nodes.at(0).in_part(Part::List));
     }
     let long = 65535 < contents.len();
     if long {
-        return Measured::Refused(refusal(4, 2, 0));
+        return Err(Cause::Long.at(0).in_part(Part::List));
     }
     let mut out = [0u8; 1];
     match write_component(
@@ -53,17 +46,16 @@ pub fn survey_list(
         0,
         &mut out[..0],
     ) {
-        Wrote::Refused(f) => Measured::Refused(refusal(f.number, 2, f.place as u64)),
-        Wrote::Got(c) => {
-            let at = c.at;
-            if at < count {
-                return Measured::Refused(refusal(11, 2, at as u64));
+        Err(fault) => Err(fault.in_part(Part::List)),
+        Ok(end) => {
+            if end.at < count {
+                return Err(Cause::BadList.at(end.at).in_part(Part::List));
             }
-            let left_over = c.used < contents.len();
+            let left_over = end.used < contents.len();
             if left_over {
-                return Measured::Refused(refusal(11, 2, at as u64));
+                return Err(Cause::BadList.at(end.at).in_part(Part::List));
             }
-            Measured::Got(c.to)
+            Ok(end.to)
         }
     }
 }

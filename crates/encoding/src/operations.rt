@@ -5,27 +5,28 @@ ghost use Rattle.x696.specs.Operations.{measure as measured, encode_list};
 ghost use Rattle.table.specs.Replies.{as_reply};
 ghost use Rattle.encoding.specs.Measures.{OctetsAnswer, Writes};
 
-use crate::lists::{Measured, survey_list};
-use decoding::operations::{Asked, asked_row};
-use table::reply::{Reply, done, refusal};
+use crate::lists::survey_list;
+use decoding::operations::asked_row;
+use octets::faults::{Cause, Part, Refusal};
+use table::reply::{Reply, done};
 use writing::value::write_value;
 
 // The octets that a list comes to, with all refusals before ROOM.
-pub fn octets_for(rows: &[u64], items: &[u64], row: u64, nodes: &[u64], contents: &[u8]) -> Measured
+pub fn octets_for(
+    rows: &[u64],
+    items: &[u64],
+    row: u64,
+    nodes: &[u64],
+    contents: &[u8],
+) -> Result<usize, Refusal>
     ensures { OctetsAnswer rows.now items.now row nodes.now contents.now result }
 {
-    match asked_row(rows, items, row) {
-        Asked::Refused(r) => Measured::Refused(r),
-        Asked::Ready => match survey_list(rows, items, row as usize, 0, 0, nodes, contents) {
-            Measured::Refused(r) => Measured::Refused(r),
-            Measured::Got(n) => {
-                if 65535 < n {
-                    return Measured::Refused(refusal(4, 4, 0));
-                }
-                Measured::Got(n)
-            }
-        },
+    asked_row(rows, items, row)?;
+    let n = survey_list(rows, items, row as usize, 0, 0, nodes, contents)?;
+    if 65535 < n {
+        return Err(Cause::Long.at(0).in_part(Part::Result));
     }
+    Ok(n)
 }
 
 // Measure a value list: the octets of its value.
@@ -34,8 +35,8 @@ pub fn measure(rows: &[u64], items: &[u64], row: u64, nodes: &[u64], contents: &
     ensures { result ≡ as_reply (measured rows.now items.now row nodes.now contents.now) }
 {
     match octets_for(rows, items, row, nodes, contents) {
-        Measured::Refused(r) => r,
-        Measured::Got(n) => done(0, n as u64),
+        Ok(n) => done(0, n as u64),
+        Err(refusal) => Reply::from(refusal),
     }
 }
 
@@ -53,11 +54,11 @@ pub fn encode(
     ensures { Writes (encode_list rows.now items.now row nodes.now contents.now out.old) out.new result }
 {
     match octets_for(rows, items, row, nodes, contents) {
-        Measured::Refused(r) => r,
-        Measured::Got(n) => {
+        Err(refusal) => Reply::from(refusal),
+        Ok(n) => {
             let lacks = out.len() < n;
             if lacks {
-                return refusal(12, 4, 0);
+                return Reply::from(Cause::Room.at(0).in_part(Part::Result));
             }
             let _again = write_value(rows, items, row as usize, nodes, contents, 0, 0, 0, out);
             done(0, n as u64)
