@@ -15,41 +15,31 @@ use Rattle.x696.specs.Path.{child, child_at, through, onward, find_from, child_b
 use Rattle.x696.specs.PresencePlace.{bits_before, preamble_start, bit_number}
 use Rattle.x696.proofs.BeforeLaws.{before_step, start_step, number_step}
 use Rattle.x696.specs.Table.{type_of}
-use Rattle.octets.specs.declared.answers.Fault.{Fault}
+use Rattle.octets.specs.declared.faults.Fault.{Fault}
 use Rattle.kinds.specs.Run.{number_of}
 use Rattle.kinds.specs.declared.cursor.Cursor.{Cursor}
 use Rattle.finding.specs.Passing.{Stood, none}
 use Rattle.finding.specs.Leading.{behind_of, Leads}
-use Rattle.finding.specs.Following.{preamble_from, bit_from, Spotted, followed, Childless, Finds, Loses, Follows}
+use Rattle.finding.specs.Following.{preamble_from, bit_from, Spotted, followed, Childless, Loses, Goes, Follows}
 use Rattle.finding.specs.declared.spot.Opening.{Opening}
 use Rattle.finding.specs.declared.spot.Spot.{Spot}
-use Rattle.finding.specs.declared.spot.Way.{Way}
-use Rattle.finding.specs.declared.spot.Lost.{Lost}
-use Rattle.finding.specs.declared.spot.Followed.TheVariants.{Found, Nowhere, Refused}
+use Rattle.std.proofs.Common.{Result, Ok, Err}
+use Rattle.finding.specs.declared.spot.Followed.{Followed}
+use Rattle.octets.specs.Cause.{code_of}
 
 -- ---- answers
 module _ {rows items msg : List ℕ} {m d row pre b at count : ℕ} {path : List ℕ} {step : ℕ} where
-  pub follows_found : {w : Way} → Finds rows items msg m d row pre b at count (drop step path) w
-      → Follows rows items msg m d row pre b at count path step (Found w)
-  follows_found {w} h = record {
-    found = λ x e. let q : w ≡ x = cc in rw (← q) h;
-    lost = λ x e. let z : ◌≡◌ {A = ℕ} 0 1 = cc in absurd (omega arith);
+  pub follows_on : {w : Followed} → Goes rows items msg m d row pre b at count (drop step path) step w
+      → Follows rows items msg m d row pre b at count path step (Ok w)
+  follows_on {w} h = record {
+    went = λ x e. let q : w ≡ x = cc in rw (← q) h;
     stopped = λ x e. let z : ◌≡◌ {A = ℕ} 0 1 = cc in absurd (omega arith);
   }
 
-  pub follows_lost : {l : Lost} → Loses rows items msg m d row pre b at count (drop step path) step l
-      → Follows rows items msg m d row pre b at count path step (Nowhere l)
-  follows_lost {l} h = record {
-    found = λ x e. let z : ◌≡◌ {A = ℕ} 0 1 = cc in absurd (omega arith);
-    lost = λ x e. let q : l ≡ x = cc in rw (← q) h;
-    stopped = λ x e. let z : ◌≡◌ {A = ℕ} 0 1 = cc in absurd (omega arith);
-  }
-
-  pub follows_fault : (f : Fault) → followed rows items msg m d row pre b at count ≡ refused f.number f.place
-      → Follows rows items msg m d row pre b at count path step (Refused f)
+  pub follows_fault : (f : Fault) → followed rows items msg m d row pre b at count ≡ refused (code_of f.cause) f.place
+      → Follows rows items msg m d row pre b at count path step (Err f)
   follows_fault f h = record {
-    found = λ x e. let z : ◌≡◌ {A = ℕ} 0 1 = cc in absurd (omega arith);
-    lost = λ x e. let z : ◌≡◌ {A = ℕ} 0 1 = cc in absurd (omega arith);
+    went = λ x e. let z : ◌≡◌ {A = ℕ} 0 1 = cc in absurd (omega arith);
     stopped = λ x e. let q : f ≡ x = cc in rw (← q) h;
   }
 
@@ -84,37 +74,30 @@ module _ (rows items msg : List ℕ) (m d row pre b at count : ℕ) (path : List
   -- no child
   pub none_loses : {c : Cursor} → Childless rows items msg m d row pre b at count i
       → Stood number_of msg (followed rows items msg m d row pre b at count) c
-      → Loses rows items msg m d row pre b at count (drop step path) step
-      (record { at = c.at; count = c.count; step = step })
+      → Goes rows items msg m d row pre b at count (drop step path) step
+      (record { at = c.at; count = c.count; leads = Err step })
   unfolding find_from through
   none_loses h g =
       rw path_is (record {
         what = g.what;
         reads = g.reads;
         inside = g.inside;
-        past = 0;
-        finds = rw (h _ _ g.reads) refl;
-        steps = omega arith;
+        found = λ s e. let z : ◌≡◌ {A = ℕ} 0 1 = cc in absurd (omega arith);
+        lost = λ k e.
+            let q : step ≡ k = cc in
+            record { past = 0; finds = rw (h _ _ g.reads) refl; steps = omega arith };
       })
 
   module _ (o : Opening) (l : Leads rows items msg row at i (followed rows items msg m d row pre b at count) o) where
-    pub child_lost : {k : Lost} {c : Cursor}
-        (h : Loses rows items msg o.mark o.given o.row at o.bit o.at o.count (drop
-        (step + 1) path) (step + 1) k)
-        → Stood none msg (behind_of rows items msg row at o (message (drop k.at msg) k.count)) c
-        → Loses rows items msg m d row pre b at count (drop step path) step
-        (record { at = c.at; count = c.count; step = k.step })
+    lost_step : (x : Val) (bs : Vals) {k : ℕ}
+        → Loses rows items msg o.mark o.given o.row at o.bit o.at o.count x (drop (step + 1) path) (step + 1) k
+        → Loses rows items msg m d row pre b at count (l.wrap x bs) (i ∷ drop (step + 1) path) step k
     unfolding onward
-    child_lost h g =
-        let v = l.wrap h.what g.what in
-        rw path_is (record {
-          what = v;
-          reads = l.gets h.what _ g.what _ h.reads g.reads;
-          inside = g.inside;
-          past = suc h.past;
-          finds = found_step t v i (l.leads h.what g.what) m d (drop (step + 1) path) ∙ rw h.finds refl;
-          steps = omega (arith, h.steps);
-        })
+    lost_step x bs h = record {
+      past = suc h.past;
+      finds = found_step t (l.wrap x bs) i (l.leads x bs) m d (drop (step + 1) path) ∙ rw h.finds refl;
+      steps = omega (arith, h.steps);
+    }
 
     spot_step : (x : Val) (bs : Vals) {s : Spot}
         → Spotted rows items o.mark o.given (type_of rows items o.row) at o.bit o.at x (drop
@@ -142,15 +125,17 @@ module _ (rows items msg : List ℕ) (m d row pre b at count : ℕ) (path : List
           fitting = h.fitting;
         }
 
-    pub child_found : {w : Way} {c : Cursor}
-        (h : Finds rows items msg o.mark o.given o.row at o.bit o.at o.count (drop (step + 1) path) w)
+    -- the child was followed, and what stands behind it is passed
+    pub child_goes : {w : Followed} {c : Cursor}
+        (h : Goes rows items msg o.mark o.given o.row at o.bit o.at o.count (drop (step + 1) path) (step + 1) w)
         → Stood none msg (behind_of rows items msg row at o (message (drop w.at msg) w.count)) c
-        → Finds rows items msg m d row pre b at count (drop step path)
-        (record { at = c.at; count = c.count; spot = w.spot })
-    child_found h g =
+        → Goes rows items msg m d row pre b at count (drop step path) step
+        (record { at = c.at; count = c.count; leads = w.leads })
+    child_goes h g =
         rw path_is (record {
           what = l.wrap h.what g.what;
           reads = l.gets h.what _ g.what _ h.reads g.reads;
           inside = g.inside;
-          spot = spot_step h.what g.what h.spot;
+          found = λ s e. spot_step h.what g.what (h.found s e);
+          lost = λ k e. lost_step h.what g.what (h.lost k e);
         })

@@ -29,13 +29,13 @@ use Rattle.x696.proofs.TableKinds.{choice_type}
 use Rattle.octets.specs.Presence.{bit_at}
 use Rattle.octets.specs.Answers.{capped, TagAnswer}
 use Rattle.octets.specs.declared.answers.Tag.{Tag}
-use Rattle.octets.specs.declared.answers.ReadTag.{ReadTag}
-use Rattle.octets.specs.declared.answers.ReadTag.TheVariants.{Got as GotTag}
 use Rattle.octets.proofs.Octets.{below_drop}
 use Rattle.kinds.specs.Run.{inside_at}
 use Rattle.reading.proofs.Alternatives.{alternative_capped, chosen}
 use Rattle.finding.specs.Leading.{behind_of, Leads}
 use Rattle.finding.specs.declared.spot.Opening.{Opening}
+use Rattle.std.proofs.Common.{Result, Ok}
+use Rattle.octets.specs.declared.faults.Fault.{Fault}
 
 -- no step but 0
 alternatives_none : (is : Items) (n : ℕ) (vs : Vals) (i : ℕ) → (i ≡ 0 → ⊥) → alternative_at is n vs i ≡ no_child
@@ -66,7 +66,7 @@ module _ (rows items msg : List ℕ) (row at count : ℕ) (inside : at ≤ lengt
   unfolding child_at
   past_choice i h (node k n os vs) s e = rw (choice_type rows items row sound is) (alternatives_none _ n vs i h)
 
-  module _ (g n j : ℕ) {a : ReadTag} (t : TagAnswer msg (read_tag at (drop at msg)) at a) (m : Tag) (e : a ≡ GotTag m)
+  module _ (g n j : ℕ) {a : Result Tag Fault} (t : TagAnswer msg (read_tag at (drop at msg)) at a) (m : Tag) (e : a ≡ Ok m)
       (eg : g ≡ row_first rows row) (en : n ≡ row_count rows row)
       (ej : (f : ℕ → Ty) → j ≡ alternative (alternatives_from f items g n) (tag m.class m.number))
       (h : j < n) where

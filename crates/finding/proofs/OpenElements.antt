@@ -26,8 +26,6 @@ use Rattle.x696.proofs.TableKinds.{sequence_of_type}
 use Rattle.octets.specs.Presence.{bit_at}
 use Rattle.octets.specs.Answers.{QuantityAnswer}
 use Rattle.octets.specs.declared.answers.Quantity.{Quantity}
-use Rattle.octets.specs.declared.answers.ReadQuantity.{ReadQuantity}
-use Rattle.octets.specs.declared.answers.ReadQuantity.TheVariants.{Got as GotQuantity}
 use Rattle.octets.proofs.Answered.{next_refused, next_got}
 use Rattle.octets.proofs.Octets.{below_drop}
 use Rattle.kinds.specs.Run.{inside_at}
@@ -40,6 +38,8 @@ use Rattle.finding.specs.declared.spot.Opening.{Opening}
 use Rattle.finding.proofs.Members.{append, joined, elements_stop, elements_many, elements_split, elements_octets}
 use Rattle.finding.proofs.Members.{element_at_lem, elements_before_lem}
 use Rattle.finding.proofs.Openings.{group_stops, group_ends, group_gets}
+use Rattle.std.proofs.Common.{Result, Ok}
+use Rattle.octets.specs.declared.faults.Fault.{Fault}
 
 -- no element past the last
 elements_none : (t : Ty) (vs : Vals) (i : ℕ) → value_count vs ≤ i → element_at t vs i ≡ no_child
@@ -56,8 +56,8 @@ times_step f n i s h = let e : n - i ≡ suc (n - (i + 1)) = omega arith in rw e
 
 module _ (rows items msg : List ℕ) (row at count : ℕ) (inside : at ≤ length msg)
     (sound : row_sound rows items row ≡ true) (is : row_kind rows row ≡ 11) (g inner i : ℕ)
-    (eg : g ≡ row_first rows row) (ei : inner ≡ component_row items g) {a : ReadQuantity}
-    (q : QuantityAnswer msg (read_unsigned at (drop at msg)) at a) (y : Quantity) (ey : a ≡ GotQuantity y) where
+    (eg : g ≡ row_first rows row) (ei : inner ≡ component_row items g) {a : Result Quantity Fault}
+    (q : QuantityAnswer msg (read_unsigned at (drop at msg)) at a) (y : Quantity) (ey : a ≡ Ok y) where
   abbrev D : Outcome Message Val
   D = inside_at (type_of rows items row) msg at count
 

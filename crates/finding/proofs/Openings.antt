@@ -20,23 +20,25 @@ use Rattle.x696.specs.Table.{row_kind, type_of}
 use Rattle.x696.proofs.TableKinds.{leaf_type}
 use Rattle.octets.specs.Presence.{bit_at}
 use Rattle.octets.specs.Answers.{fault}
-use Rattle.octets.specs.declared.answers.Fault.{Fault}
+use Rattle.octets.specs.declared.faults.Fault.{Fault}
 use Rattle.octets.proofs.Answered.{next_refused, next_got}
 use Rattle.kinds.specs.Run.{inside_at}
-use Rattle.kinds.specs.declared.cursor.Read.{Read}
 use Rattle.reading.proofs.Marks.{counted_over}
 use Rattle.reading.proofs.Elements.{value_full, value_inside}
 use Rattle.finding.specs.Passing.{Passed, components_at, none}
 use Rattle.finding.specs.Leading.{behind_of, Leads, Opens}
 use Rattle.finding.specs.declared.spot.Opening.{Opening}
-use Rattle.finding.specs.declared.spot.Opened.{Opened}
-use Rattle.finding.specs.declared.spot.Opened.TheVariants.{Into, Nowhere, Refused}
 use Rattle.finding.proofs.Parts.{plain_is, missing_is, carried_is}
 use Rattle.finding.proofs.Members.{append, joined}
+use Rattle.std.proofs.Common.{Result}
+use Rattle.octets.specs.Cause.{code_of}
+use Rattle.std.proofs.Common.{Ok, Err, Option, Some, None}
+use Rattle.octets.specs.declared.faults.Cause.{Cause}
+use Rattle.kinds.specs.declared.cursor.Cursor.{Cursor}
 
 -- ---- answers
 module _ {rows items msg : List ℕ} {row at i : ℕ} {O : Outcome Message Val} where
-  pub opened_into : {o : Opening} → Leads rows items msg row at i O o → Opens rows items msg row at i O (Into o)
+  pub opened_into : {o : Opening} → Leads rows items msg row at i O o → Opens rows items msg row at i O (Ok (Some o))
   opened_into {o} h = record {
     into = λ x e. let q : o ≡ x = cc in rw (← q) h;
     nowhere = λ e. let z : ◌≡◌ {A = ℕ} 0 1 = cc in absurd (omega arith);
@@ -44,22 +46,22 @@ module _ {rows items msg : List ℕ} {row at i : ℕ} {O : Outcome Message Val} 
   }
 
   pub opened_nowhere : ((v : Val) (s : Message) → O ≡ got v s → child_at (type_of rows items row) v i ≡ no_child)
-      → Opens rows items msg row at i O Nowhere
+      → Opens rows items msg row at i O (Ok None)
   opened_nowhere h = record {
     into = λ x e. let z : ◌≡◌ {A = ℕ} 0 1 = cc in absurd (omega arith);
     nowhere = λ e. h;
     stopped = λ x e. let z : ◌≡◌ {A = ℕ} 0 1 = cc in absurd (omega arith);
   }
 
-  pub opened_refused : {k q : ℕ} {r : Opened} → O ≡ refused k q → r ≡ Refused (fault k q)
-      → Opens rows items msg row at i O r
-  opened_refused h f = record {
-    into = λ x e. let z : ◌≡◌ {A = ℕ} 0 1 = cc in absurd (omega arith);
-    nowhere = λ e. let z : ◌≡◌ {A = ℕ} 0 1 = cc in absurd (omega arith);
-    stopped = λ x e. cc;
+  pub opened_refused : {k : Cause} {q : ℕ} {f : Fault} → O ≡ refused (code_of k) q → f ≡ fault k q
+      → Opens rows items msg row at i O (Err f)
+  opened_refused h e = record {
+    into = λ x g. let z : ◌≡◌ {A = ℕ} 0 1 = cc in absurd (omega arith);
+    nowhere = λ g. let z : ◌≡◌ {A = ℕ} 0 1 = cc in absurd (omega arith);
+    stopped = λ x g. cc;
   }
 
-  pub opened_fault : (f : Fault) → O ≡ refused f.number f.place → Opens rows items msg row at i O (Refused f)
+  pub opened_fault : (f : Fault) → O ≡ refused (code_of f.cause) f.place → Opens rows items msg row at i O (Err f)
   opened_fault f e = opened_refused e refl
 
 -- ---- a group: its values are us, then the child C, then what B reads
@@ -94,11 +96,11 @@ module _ (rows items msg : List ℕ) (row m d pre b at count i : ℕ) (inside : 
   D = inside_at t msg at count
 
   module _ (room : count < 4096) where
-    pub plain_opens : {r : Opened} → m ≡ 0 → Opens rows items msg row at i D r → Opens rows items msg row at i P r
+    pub plain_opens : {r : Result (Option Opening) Fault} → m ≡ 0 → Opens rows items msg row at i D r → Opens rows items msg row at i P r
     plain_opens e w = rw (plain_is t m d msg pre b at count inside e, value_inside t msg at count room) w
 
     module _ (marked : m ≡ 0 → ⊥) (x : Bool) (ex : x ≡ eqb (bit_at msg pre b) 1) where
-      pub missing_opens : x ≡ false → Opens rows items msg row at i P Nowhere
+      pub missing_opens : x ≡ false → Opens rows items msg row at i P (Ok None)
       unfolding counted
       missing_opens e =
           opened_nowhere λ v s g.
@@ -119,7 +121,7 @@ module _ (rows items msg : List ℕ) (row m d pre b at count i : ℕ) (inside : 
         unfolding must
         got_too f e = carried ∙ next_got _ e ∙ rw f refl
 
-        pub carried_opens : {r : Opened} → Opens rows items msg row at i D r → Opens rows items msg row at i P r
+        pub carried_opens : {r : Result (Option Opening) Fault} → Opens rows items msg row at i D r → Opens rows items msg row at i P r
         carried_opens w = record {
           into = λ o e.
               let l = w.into o e in
@@ -157,7 +159,7 @@ module _ (rows items msg : List ℕ) (row m d pre b at count i : ℕ) (inside : 
       (λ f. carried_is t m d msg pre b at count inside marked _ refl f ∙ next_refused _ full)
       (λ f. missing_is t m d msg pre b at count inside marked _ refl f ∙ counted_over msg at count _ h inside))
 
-  pub full_opens : 4096 ≤ count → Opens rows items msg row at i P Nowhere
+  pub full_opens : 4096 ≤ count → Opens rows items msg row at i P (Ok None)
   full_opens h = opened_nowhere λ v s g. absurd (refused_never (sym (component_full h) ∙ g))
 
 -- a kind without components
@@ -168,13 +170,13 @@ leaf_nowhere rows items row O i v s h e = rw (leaf_type rows items row h).1 refl
 
 -- ---- what stands behind the child
 module _ (rows items msg : List ℕ) (row at : ℕ) (o : Opening) where
-  pub components_behind : (s : Message) {r : Read} → row_kind rows row ≡ 10
+  pub components_behind : (s : Message) {r : Result Cursor Fault} → row_kind rows row ≡ 10
       → Passed none msg (components_at rows items msg at o.later o.after o.left s) r
       → Passed none msg (behind_of rows items msg row at o s) r
   unfolding behind_of choose
   components_behind s e w = rw e w
 
-  pub elements_behind : (s : Message) {r : Read} → (row_kind rows row ≡ 10 → ⊥)
+  pub elements_behind : (s : Message) {r : Result Cursor Fault} → (row_kind rows row ≡ 10 → ⊥)
       → Passed none msg (times (λ s. read node_limit (type_of rows items o.row) (length msg) s) o.left s) r
       → Passed none msg (behind_of rows items msg row at o s) r
   unfolding behind_of choose

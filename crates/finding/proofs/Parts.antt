@@ -1,6 +1,6 @@
 -- Parts of a message passed over: an answer from a reading, one component with its mark and default, and the rest of a
 -- group while it is passed. Premises are the callees' `ensures`. Assumes nothing.
-use mathlib.Core.Path.{◌≡◌, refl, ◌∙◌}
+use mathlib.Core.Path.{◌≡◌, refl, ◌∙◌, ap}
 use mathlib.Core.Bool.{Bool, true, false, not}
 use mathlib.Core.List.{List}
 use Prim.Native.Nat.{ℕ, zero, suc, ◌+◌, ◌-◌, ◌<◌, ◌≤◌}
@@ -20,39 +20,43 @@ use Rattle.x696.specs.Table.{component_row, component_mark, component_default, t
 use Rattle.x696.specs.SoundTable.{Component}
 use Rattle.octets.specs.Presence.{bit_at}
 use Rattle.octets.specs.Answers.{fault}
-use Rattle.octets.specs.declared.answers.Fault.{Fault}
+use Rattle.octets.specs.declared.faults.Fault.{Fault}
 use Rattle.octets.proofs.Answered.{next_refused, next_got}
 use Rattle.octets.proofs.Octets.{below_drop}
 use Rattle.kinds.specs.Run.{cursor, number_of, Ran}
 use Rattle.kinds.specs.declared.cursor.Cursor.{Cursor}
-use Rattle.kinds.specs.declared.cursor.Read.{Read}
-use Rattle.kinds.specs.declared.cursor.Read.TheVariants.{Got, Refused}
 use Rattle.kinds.proofs.Ran.{offset_is}
 use Rattle.reading.specs.Parts.{checked}
 use Rattle.reading.specs.Members.{member_row, member_mark, member_at, members, RanAll}
 use Rattle.reading.proofs.Components.{bit_zero, marked_is}
 use Rattle.reading.proofs.Defaults.{never_absent, default_same, missing_default}
 use Rattle.finding.specs.Passing.{Stood, Passed, Fitting, left_out_at, components_at, none}
+use Rattle.std.proofs.Common.{Result, Ok, Err}
+use Rattle.octets.specs.Cause.{code_of}
+use Rattle.octets.specs.declared.faults.Cause.{Cause}
+use Rattle.octets.specs.declared.faults.Cause.TheVariants.{NotCanonical}
+use Rattle.octets.specs.declared.faults.Cause.TheVariants.{Nodes}
 
 -- ---- answers
 module _ {A : Type 0} {f : A → ℕ} {msg : List ℕ} {o : Outcome Message A} where
-  pub passed_refused : {k q : ℕ} {r : Read} → o ≡ refused k q → r ≡ Refused (fault k q) → Passed f msg o r
+  pub passed_refused : {k : Cause} {q : ℕ} {stop : Fault} → o ≡ refused (code_of k) q → stop ≡ fault k q
+      → Passed f msg o (Err stop)
   passed_refused e g =
       record { went = λ c h. let z : ◌≡◌ {A = ℕ} 0 1 = cc in absurd (omega arith); stopped = λ x h. cc }
 
-  pub passed_fault : (x : Fault) → o ≡ refused x.number x.place → Passed f msg o (Refused x)
+  pub passed_fault : (x : Fault) → o ≡ refused (code_of x.cause) x.place → Passed f msg o (Err x)
   passed_fault x e = passed_refused e refl
 
-  pub passed_got : {c : Cursor} {r : Read} → Stood f msg o c → r ≡ Got c → Passed f msg o r
+  pub passed_got : {c : Cursor} {r : Result Cursor Fault} → Stood f msg o c → r ≡ Ok c → Passed f msg o r
   passed_got {c} g e = record {
     went = λ d h. let q : c ≡ d = cc in rw (← q) g;
     stopped = λ x h. let z : ◌≡◌ {A = ℕ} 0 1 = cc in absurd (omega arith);
   }
 
-  pub passed_by : {q : Outcome Message A} {r : Read} → q ≡ o → Passed f msg o r → Passed f msg q r
+  pub passed_by : {q : Outcome Message A} {r : Result Cursor Fault} → q ≡ o → Passed f msg o r → Passed f msg q r
   passed_by e w = rw e w
 
-pub ran_passed : {msg : List ℕ} {o : Outcome Message Val} {p n u : ℕ} {l b l' b' : List ℕ} {r : Read}
+pub ran_passed : {msg : List ℕ} {o : Outcome Message Val} {p n u : ℕ} {l b l' b' : List ℕ} {r : Result Cursor Fault}
     → Ran msg o p n u l b l' b' r → Passed number_of msg o r
 ran_passed w = record {
   went = λ c e.
@@ -62,22 +66,22 @@ ran_passed w = record {
 }
 
 -- values one after another, read as the members of a group
-module _ {msg : List ℕ} {o q : Outcome Message Vals} {p n u : ℕ} {l b l' b' : List ℕ} {r : Read} (e : q ≡ o)
+module _ {msg : List ℕ} {o q : Outcome Message Vals} {p n u : ℕ} {l b l' b' : List ℕ} {r : Result Cursor Fault} (e : q ≡ o)
     (w : RanAll msg o p n u l b l' b' r) where
-  pub all_stopped : (f : Fault) → r ≡ Refused f → Passed none msg q (Refused f)
+  pub all_stopped : (f : Fault) → r ≡ Err f → Passed none msg q (Err f)
   all_stopped f g = passed_fault f (e ∙ w.stopped f g)
 
-  pub all_passed : (d : Cursor) {s : Read} → r ≡ Got d → s ≡ Got (cursor d.at d.count 0 0) → Passed none msg q s
+  pub all_passed : (d : Cursor) {s : Result Cursor Fault} → r ≡ Ok d → s ≡ Ok (cursor d.at d.count 0 0) → Passed none msg q s
   all_passed d g =
       let z = w.went d g in
       passed_got (record { what = z.what; reads = e ∙ z.reads; number = refl; inside = z.inside })
 
 -- ---- a component that is not carried
-pub left_over_lem : (d at count : ℕ) {r : Read} → 4096 ≤ count → r ≡ Refused (fault 10 at) → r ≡ left_out_at d at count
+pub left_over_lem : (d at count : ℕ) {stop : Fault} → 4096 ≤ count → stop ≡ fault Nodes at → Err stop ≡ left_out_at d at count
 unfolding left_out_at
-left_over_lem d at count h e = rw (le-leb node_limit count h) e
+left_over_lem d at count h e = rw (le-leb node_limit count h) (ap Err e)
 
-pub left_counted : (d at count : ℕ) {r : Read} → count < 4096 → r ≡ Got (cursor at (suc count) 0 d)
+pub left_counted : (d at count : ℕ) {r : Result Cursor Fault} → count < 4096 → r ≡ Ok (cursor at (suc count) 0 d)
     → r ≡ left_out_at d at count
 unfolding left_out_at
 left_counted d at count h e = rw (lt-leb node_limit count h) e
@@ -119,9 +123,9 @@ module _ (t : Ty) (m d : ℕ) (msg : List ℕ) (pre b at count : ℕ) (inside : 
     carried_is e = by_bit ∙ rw e
 
     module _ (fit : Fitting t m d) where
-      pub missing_passed : {r : Read} → x ≡ false → r ≡ left_out_at d at count → Passed number_of msg P r
+      pub missing_passed : {r : Result Cursor Fault} → x ≡ false → r ≡ left_out_at d at count → Passed number_of msg P r
       unfolding left_out_at counted must
-      missing_passed e f =
+      missing_passed {r} e f =
           passed_by (missing_is e)
           (cases_lt count 4096
           (λ l h.
@@ -131,7 +135,9 @@ module _ (t : Ty) (m d : ℕ) (msg : List ℕ) (pre b at count : ℕ) (inside : 
             number = missing_number m d t marked fit;
             inside = inside;
           }) (rw (lt-leb node_limit count h) at f))
-          (λ l h. passed_refused (rw (l, offset_is msg at inside) refl) (rw (le-leb node_limit count h) at f)))
+          (λ l h.
+          let stops : r ≡ Err (fault Nodes at) = rw (le-leb node_limit count h) at f in
+          rw stops (passed_refused (rw (l, offset_is msg at inside) refl) refl)))
 
       module _ (there : x ≡ true) where
         pub carried_stops : {k q : ℕ} → O ≡ refused k q → P ≡ refused k q
@@ -147,9 +153,9 @@ module _ (t : Ty) (m d : ℕ) (msg : List ℕ) (pre b at count : ℕ) (inside : 
           differing f =
               record { what = g.what; reads = carried_same f; number = g.number; inside = g.inside }
 
-          pub carried_passed : {r : Read} → Below 8 msg → r ≡ checked m d at c → Passed number_of msg P r
+          pub carried_passed : {r : Result Cursor Fault} → Below 8 msg → r ≡ checked m d at c → Passed number_of msg P r
           unfolding must checked missing
-          carried_passed below e =
+          carried_passed {r} below e =
               let fits = (sound node_limit t (length msg) (message (drop at msg) count) (below_drop 8 msg at below)
               g.reads).fits in
               cases (eqb m 1)
@@ -163,7 +169,9 @@ module _ (t : Ty) (m d : ℕ) (msg : List ℕ) (pre b at count : ℕ) (inside : 
               rw (missing_default m d t marked other, g.number)
               (default_same t d g.what (fit.1 two) fits) in
               cases (eqb c.number d)
-              (λ y. passed_refused (carried_same (is ∙ y)) (rw (s, y) at e))
+              (λ y.
+              let stops : r ≡ Err (fault NotCanonical at) = rw (s, y) at e in
+              rw stops (passed_refused (carried_same (is ∙ y)) refl))
               (λ y. passed_got (differing (is ∙ y)) (rw (s, y) at e)))
 
 -- ---- the first of some components, and those after it

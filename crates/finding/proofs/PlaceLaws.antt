@@ -22,35 +22,32 @@ use Rattle.x696.specs.Operations.{node_limit, octet_limit, asked, read_message}
 use Rattle.x696.specs.Editing.{Place, place_of, place_in}
 use Rattle.table.specs.Replies.{as_reply}
 use Rattle.table.specs.declared.reply.Reply.{Reply}
-use Rattle.octets.specs.declared.answers.Fault.{Fault}
+use Rattle.octets.specs.declared.faults.Fault.{Fault}
 use Rattle.kinds.proofs.Ran.{offset_is}
 use Rattle.decoding.specs.Replied.{Refuses}
 use Rattle.decoding.proofs.Replying.{message_long_lem, message_fault}
-use Rattle.finding.specs.Following.{followed, Finds, Loses}
+use Rattle.finding.specs.Following.{followed, Goes}
 use Rattle.finding.specs.Placing.{place_behind, Placed, PlaceAnswer}
 use Rattle.finding.specs.declared.spot.Way.{Way}
-use Rattle.finding.specs.declared.spot.Lost.{Lost}
-use Rattle.finding.specs.declared.places.FoundIn.{FoundIn}
-use Rattle.finding.specs.declared.places.FoundIn.TheVariants.{Found as Has, Refused as Lacks}
+use Rattle.std.proofs.Common.{Result, Ok, Err}
+use Rattle.octets.specs.declared.faults.Refusal.{Refusal}
+use Rattle.finding.specs.declared.spot.Followed.{Followed}
+use Rattle.finding.specs.declared.spot.Spot.{Spot}
+use Rattle.table.specs.Replies.{as_answer}
+use Rattle.octets.specs.Cause.{code_of}
 
 -- ---- answers
 module _ {rows items : List ℕ} {row : ℕ} {msg path : List ℕ} {a : Answer Place} where
-  pub place_stop : {n q p : ℕ} {x : FoundIn} → a ≡ refusal n q p → x ≡ Lacks (as_reply (refusal_reply n q p))
-      → PlaceAnswer rows items row msg path a x
-  place_stop {n} {q} {p} e h = record {
-    went = λ w z. let k : ◌≡◌ {A = ℕ} 0 1 = cc in absurd (omega arith);
-    stopped = λ y z.
-        let w : as_reply (refusal_reply n q p) ≡ y = cc in
-        record { number = n; part = q; place = p; is = e; reply = sym w };
-  }
-
-  pub place_refused : {x : Reply} → Refuses a x → PlaceAnswer rows items row msg path a (Lacks x)
+  pub place_refused : {x : Refusal} → Refuses a x → PlaceAnswer rows items row msg path a (Err x)
   place_refused {x} h = record {
     went = λ w z. let k : ◌≡◌ {A = ℕ} 0 1 = cc in absurd (omega arith);
     stopped = λ y z. let w : x ≡ y = cc in rw (← w) h;
   }
 
-  pub place_found : {w : Way} → Placed rows items row msg path a w → PlaceAnswer rows items row msg path a (Has w)
+  pub place_stop : {x y : Refusal} → a ≡ as_answer x → y ≡ x → PlaceAnswer rows items row msg path a (Err y)
+  place_stop e h = rw h (place_refused (record { is = e }))
+
+  pub place_found : {w : Way} → Placed rows items row msg path a w → PlaceAnswer rows items row msg path a (Ok w)
   place_found {w} h = record {
     went = λ y z. let k : w ≡ y = cc in rw (← k) h;
     stopped = λ y z. let k : ◌≡◌ {A = ℕ} 0 1 = cc in absurd (omega arith);
@@ -58,11 +55,11 @@ module _ {rows items : List ℕ} {row : ℕ} {msg path : List ℕ} {a : Answer P
 
 -- ---- the table and the row
 module _ (rows items : List ℕ) (row : ℕ) (msg path : List ℕ) where
-  pub asked_stop : {x : Reply} → Refuses (asked rows items row) x → Refuses (place_in rows items row msg path) x
+  pub asked_stop : {x : Refusal} → Refuses (asked rows items row) x → Refuses (place_in rows items row msg path) x
   unfolding place_in then
-  asked_stop h = record { number = h.number; part = h.part; place = h.place; is = rw h.is refl; reply = h.reply }
+  asked_stop h = record { is = rw h.is refl }
 
-  pub asked_place : {x : FoundIn} → asked rows items row ≡ done (type_of rows items row)
+  pub asked_place : {x : Result Way Refusal} → asked rows items row ≡ done (type_of rows items row)
       → PlaceAnswer rows items row msg path (place_behind (type_of rows items row) msg path) x
       → PlaceAnswer rows items row msg path (place_in rows items row msg path) x
   unfolding place_in place_behind then
@@ -88,8 +85,8 @@ module _ (rows items msg path : List ℕ) (row : ℕ) (short : length msg ≤ oc
   unfolding read_component component_by
   whole_is = refl
 
-  pub fault_behind : (f : Fault) → O ≡ refused f.number f.place
-      → place_behind t msg path ≡ refusal f.number 1 f.place
+  pub fault_behind : (f : Fault) → O ≡ refused (code_of f.cause) f.place
+      → place_behind t msg path ≡ refusal (code_of f.cause) 1 f.place
   fault_behind f e = stop_behind t msg path (message_fault t msg short (sym whole_is ∙ e))
 
   module _ {v : Val} {at count : ℕ} (reads : O ≡ got v (message (drop at msg) count)) (inside : at ≤ length msg) where
@@ -116,25 +113,26 @@ module _ (rows items msg path : List ℕ) (row : ℕ) (short : length msg ≤ oc
       lost_behind n e = rw (read_whole, e) refl
 
   -- the first step that leads nowhere
-  pub lost_at : {l : Lost} → Loses rows items msg 0 0 row 0 0 0 0 path 0 l → length msg ≤ l.at
-      → place_behind t msg path ≡ refusal 13 3 l.step
-  lost_at {l} h ends =
-      let e : l.step ≡ h.past = omega (arith, h.steps) in
-      rw e (lost_behind h.reads h.inside ends h.past h.finds)
+  pub lost_at : {w : Followed} → (h : Goes rows items msg 0 0 row 0 0 0 0 path 0 w) → length msg ≤ w.at → {k : ℕ}
+      → w.leads ≡ Err k → place_behind t msg path ≡ refusal 13 3 k
+  lost_at h ends {k} e =
+      let l = h.lost k e in
+      let same : k ≡ l.past = omega (arith, l.steps) in
+      rw same (lost_behind h.reads h.inside ends l.past l.finds)
 
-  pub found_behind : (table : SoundTable rows items) → row < length rows / row_width → Below 8 msg → {w : Way}
-      → Finds rows items msg 0 0 row 0 0 0 0 path w
-      → length msg ≤ w.at → Placed rows items row msg path (place_behind t msg path) w
+  pub found_behind : (table : SoundTable rows items) → row < length rows / row_width → Below 8 msg → {w : Followed}
+      → Goes rows items msg 0 0 row 0 0 0 0 path 0 w → length msg ≤ w.at → {spot : Spot} → w.leads ≡ Ok spot
+      → Placed rows items row msg path (place_behind t msg path) (record { at = w.at; count = w.count; spot = spot })
   unfolding place_behind then place_of find
-  found_behind table known below {w} h ends =
-      let s = h.spot in
+  found_behind table known below {w} h ends {spot} e =
+      let s = h.found spot e in
       let reads = sym whole_is ∙ h.reads in
       let a = sound node_limit t (length msg) (message msg 0) below reads in
       let none : drop w.at msg ≡ [] = drop_of_length-le msg ends in
       let all : msg ≡ encode t h.what = a.from ∙ rw (none, append-nil (encode t h.what)) refl in
       let (after, stands) = own_stands t h.what path s.finds in
       let before = octets_before t h.what path in
-      let own = own_octets w.spot.mark w.spot.given (type_of rows items w.spot.row) s.value in
+      let own = own_octets spot.mark spot.given (type_of rows items spot.row) s.value in
       record {
         sound = table;
         known = known;

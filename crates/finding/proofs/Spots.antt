@@ -28,8 +28,9 @@ use Rattle.octets.proofs.Octets.{below_drop}
 use Rattle.kinds.specs.Run.{number_of}
 use Rattle.kinds.specs.declared.cursor.Cursor.{Cursor}
 use Rattle.finding.specs.Passing.{Stood, Fitting}
-use Rattle.finding.specs.Following.{kind_in, preamble_from, bit_from, Spotted, followed, Finds}
+use Rattle.finding.specs.Following.{kind_in, preamble_from, bit_from, Spotted, followed, Goes}
 use Rattle.finding.specs.declared.spot.Spot.{Spot}
+use Rattle.std.proofs.Common.{Ok}
 use Rattle.finding.proofs.Members.{component_own, bit_small}
 
 -- ---- the kind of a value's own node
@@ -138,7 +139,13 @@ module _ (rows items msg : List ℕ) (m d row pre b at count : ℕ) (inside : at
         }
 
     pub end_finds : (path : List ℕ) (step : ℕ) → length path ≤ step
-        → Finds rows items msg m d row pre b at count (drop step path)
-        (record { at = c.at; count = c.count; spot = spot })
+        → Goes rows items msg m d row pre b at count (drop step path) step
+        (record { at = c.at; count = c.count; leads = Ok spot })
     end_finds path step h =
-        rw (drop_of_length-le path h) (record { what = v; reads = g.reads; inside = g.inside; spot = spotted })
+        rw (drop_of_length-le path h) (record {
+          what = v;
+          reads = g.reads;
+          inside = g.inside;
+          found = λ s e. let q : spot ≡ s = cc in rw (← q) spotted;
+          lost = λ k e. let z : ◌≡◌ {A = ℕ} 0 1 = cc in absurd (omega arith);
+        })

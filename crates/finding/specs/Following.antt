@@ -12,14 +12,13 @@ use Rattle.x696.specs.PresencePlace.{preamble_start, bit_number}
 use Rattle.x696.specs.Operations.{node_limit}
 use Rattle.x696.specs.Table.{row_width, type_of}
 use Rattle.octets.specs.Presence.{bit_at}
-use Rattle.octets.specs.declared.answers.Fault.{Fault}
+use Rattle.octets.specs.declared.faults.Fault.{Fault}
 use Rattle.kinds.specs.Run.{number_of}
 use Rattle.finding.specs.Passing.{Fitting}
 use Rattle.finding.specs.declared.spot.Spot.{Spot}
-use Rattle.finding.specs.declared.spot.Way.{Way}
-use Rattle.finding.specs.declared.spot.Lost.{Lost}
 use Rattle.finding.specs.declared.spot.Followed.{Followed}
-use Rattle.finding.specs.declared.spot.Followed.TheVariants.{Found, Nowhere, Refused}
+use Rattle.std.specs.Prelude.{Result, Ok, Err}
+use Rattle.octets.specs.Cause.{code_of}
 
 -- the kind of a value's own node; 0 is ABSENT
 unfoldable pub kind_in : Val → ℕ
@@ -59,21 +58,19 @@ module _ (rows items msg : List ℕ) (m d row pre b at count : ℕ) where
   abbrev pub Childless : (i : ℕ) → Type 0
   Childless i = (v : Val) (s : Message) → followed ≡ got v s → child_at (type_of rows items row) v i ≡ no_child
 
-  pub record Finds (p : List ℕ) (w : Way) : Type 0 where
+  -- the path leads nowhere in the value v at this step, of which `past` are behind it
+  pub record Loses (v : Val) (p : List ℕ) (step place : ℕ) : Type 0 where
+    pub past : ℕ
+    pub finds : find_from m d (type_of rows items row) v p ≡ nowhere past
+    pub steps : place ≡ step + past
+
+  pub record Goes (p : List ℕ) (step : ℕ) (w : Followed) : Type 0 where
     pub what : Val
     pub reads : followed ≡ got what (message (drop w.at msg) w.count)
     pub inside : w.at ≤ length msg
-    pub spot : Spotted rows items m d (type_of rows items row) pre b at what p w.spot
+    pub found : (s : Spot) → w.leads ≡ Ok s → Spotted rows items m d (type_of rows items row) pre b at what p s
+    pub lost : (k : ℕ) → w.leads ≡ Err k → Loses what p step k
 
-  pub record Loses (p : List ℕ) (step : ℕ) (l : Lost) : Type 0 where
-    pub what : Val
-    pub reads : followed ≡ got what (message (drop l.at msg) l.count)
-    pub inside : l.at ≤ length msg
-    pub past : ℕ
-    pub finds : find_from m d (type_of rows items row) what p ≡ nowhere past
-    pub steps : l.step ≡ step + past
-
-  pub record Follows (path : List ℕ) (step : ℕ) (r : Followed) : Type 0 where
-    pub found : (w : Way) → r ≡ Found w → Finds (drop step path) w
-    pub lost : (l : Lost) → r ≡ Nowhere l → Loses (drop step path) step l
-    pub stopped : (x : Fault) → r ≡ Refused x → followed ≡ refused x.number x.place
+  pub record Follows (path : List ℕ) (step : ℕ) (r : Result Followed Fault) : Type 0 where
+    pub went : (w : Followed) → r ≡ Ok w → Goes (drop step path) step w
+    pub stopped : (x : Fault) → r ≡ Err x → followed ≡ refused (code_of x.cause) x.place

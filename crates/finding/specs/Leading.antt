@@ -11,11 +11,11 @@ use Rattle.x696.specs.Operations.{node_limit}
 use Rattle.x696.specs.Table.{row_kind, item_width, type_of}
 use Rattle.x696.specs.SoundTable.{Each, Component}
 use Rattle.octets.specs.Presence.{bit_at}
-use Rattle.octets.specs.declared.answers.Fault.{Fault}
+use Rattle.octets.specs.declared.faults.Fault.{Fault}
 use Rattle.finding.specs.Passing.{Fitting, components_at}
 use Rattle.finding.specs.declared.spot.Opening.{Opening}
-use Rattle.finding.specs.declared.spot.Opened.{Opened}
-use Rattle.finding.specs.declared.spot.Opened.TheVariants.{Into, Nowhere, Refused}
+use Rattle.std.specs.Prelude.{Result, Ok, Err, Option, Some, None}
+use Rattle.octets.specs.Cause.{code_of}
 
 module _ (rows items msg : List ℕ) (row at : ℕ) (o : Opening) where
   -- the child, in the group at octet `at`
@@ -56,7 +56,7 @@ pub record Leads (rows items msg : List ℕ) (row at i : ℕ) (O : Outcome Messa
   pub fitting : Fitting (type_of rows items o.row) o.mark o.given
   pub behind : BehindFits rows items row o
 
-pub record Opens (rows items msg : List ℕ) (row at i : ℕ) (O : Outcome Message Val) (r : Opened) : Type 0 where
-  pub into : (o : Opening) → r ≡ Into o → Leads rows items msg row at i O o
-  pub nowhere : r ≡ Nowhere → (v : Val) (s : Message) → O ≡ got v s → child_at (type_of rows items row) v i ≡ no_child
-  pub stopped : (x : Fault) → r ≡ Refused x → O ≡ refused x.number x.place
+pub record Opens (rows items msg : List ℕ) (row at i : ℕ) (O : Outcome Message Val) (r : Result (Option Opening) Fault) : Type 0 where
+  pub into : (o : Opening) → r ≡ Ok (Some o) → Leads rows items msg row at i O o
+  pub nowhere : r ≡ Ok None → (v : Val) (s : Message) → O ≡ got v s → child_at (type_of rows items row) v i ≡ no_child
+  pub stopped : (x : Fault) → r ≡ Err x → O ≡ refused (code_of x.cause) x.place

@@ -12,12 +12,11 @@ use Rattle.x696.specs.Table.{row_width, type_of}
 use Rattle.x696.specs.SoundTable.{SoundTable}
 use Rattle.x696.specs.Operations.{node_limit, octet_limit, read_message}
 use Rattle.x696.specs.Editing.{Place, place_of}
-use Rattle.table.specs.declared.reply.Reply.{Reply}
+use Rattle.octets.specs.declared.faults.Refusal.{Refusal}
 use Rattle.decoding.specs.Replied.{Refuses}
 use Rattle.finding.specs.Following.{Spotted}
+use Rattle.std.specs.Prelude.{Result, Ok, Err}
 use Rattle.finding.specs.declared.spot.Way.{Way}
-use Rattle.finding.specs.declared.places.FoundIn.{FoundIn}
-use Rattle.finding.specs.declared.places.FoundIn.TheVariants.{Found, Refused}
 
 -- a place behind the table's refusals
 unfoldable pub place_behind : Ty → (octets path : List ℕ) → Answer Place
@@ -44,6 +43,6 @@ pub record Placed (rows items : List ℕ) (row : ℕ) (msg path : List ℕ) (a :
   })
 
 pub record PlaceAnswer (rows items : List ℕ) (row : ℕ) (msg path : List ℕ) (a : Answer Place)
-    (r : FoundIn) : Type 0 where
-  pub went : (w : Way) → r ≡ Found w → Placed rows items row msg path a w
-  pub stopped : (x : Reply) → r ≡ Refused x → Refuses a x
+    (r : Result Way Refusal) : Type 0 where
+  pub went : (w : Way) → r ≡ Ok w → Placed rows items row msg path a w
+  pub stopped : (x : Refusal) → r ≡ Err x → Refuses a x

@@ -8,7 +8,8 @@ ghost use Rattle.finding.specs.Leading.{behind_of, BehindFits};
 
 use crate::passing::{pass_components, pass_elements};
 use crate::spot::Opening;
-use kinds::cursor::Read;
+use kinds::cursor::Cursor;
+use octets::faults::Fault;
 use table::words::row_kind;
 
 // What stands behind the child in its group, whose own octets begin at `pre`.
@@ -21,7 +22,7 @@ pub fn pass_behind(
     pre: usize,
     at: usize,
     count: usize,
-) -> Read
+) -> Result<Cursor, Fault>
     requires { SoundTable rows.now items.now × (row < length rows.now / row_width) × (at ≤ length msg.now) × (length msg.now ≤ 65535) × (pre ≤ length msg.now) × (o.row < row) × BehindFits rows.now items.now row o }
     ensures { Passed none msg.now (behind_of rows.now items.now msg.now row pre o (message (drop at msg.now) count)) result }
 {

@@ -11,8 +11,8 @@ ghost use Rattle.finding.specs.Following.{Childless, Follows};
 use crate::closing::pass_behind;
 use crate::opening::open_component;
 use crate::passing::pass_component;
-use crate::spot::{Followed, Lost, Opened, Spot, Way};
-use kinds::cursor::Read;
+use crate::spot::{Followed, Spot};
+use octets::faults::Fault;
 use octets::presence::is_present;
 
 fn is_absent(mark: u64, msg: &[u8], pre: usize, b: usize) -> bool
@@ -41,33 +41,28 @@ fn follow_end(
     count: usize,
     path: &[u64],
     step: usize,
-) -> Followed
+) -> Result<Followed, Fault>
     requires { SoundTable rows.now items.now × (row < length rows.now / row_width) × (at ≤ length msg.now) × (length msg.now ≤ 65535) × Fitting (type_of rows.now items.now row) mark given × (pre ≤ length msg.now) × (b < 1024) × (length path.now ≤ step) }
     ensures { Follows rows.now items.now msg.now mark given row pre b at count path.now step result }
 {
     let absent = is_absent(mark, msg, pre, b);
-    match pass_component(rows, items, row, mark, given, msg, pre, b, at, count) {
-        Read::Refused(f) => Followed::Refused(f),
-        Read::Got(c) => {
-            let spot = Spot {
-                row,
-                mark,
-                given,
-                absent,
-                start: at,
-                end: c.at,
-                nodes: c.count - count,
-                number: c.number,
-                pre,
-                bit: b,
-            };
-            Followed::Found(Way {
-                at: c.at,
-                count: c.count,
-                spot,
-            })
-        }
-    }
+    let end = pass_component(rows, items, row, mark, given, msg, pre, b, at, count)?;
+    Ok(Followed {
+        at: end.at,
+        count: end.count,
+        leads: Ok(Spot {
+            row,
+            mark,
+            given,
+            absent,
+            start: at,
+            end: end.at,
+            nodes: end.count - count,
+            number: end.number,
+            pre,
+            bit: b,
+        }),
+    })
 }
 
 // The path leads nowhere at this step.
@@ -84,18 +79,16 @@ fn follow_nowhere(
     count: usize,
     path: &[u64],
     step: usize,
-) -> Followed
+) -> Result<Followed, Fault>
     requires { SoundTable rows.now items.now × (row < length rows.now / row_width) × (at ≤ length msg.now) × (length msg.now ≤ 65535) × Fitting (type_of rows.now items.now row) mark given × (pre ≤ length msg.now) × (b < 1024) × (step < length path.now) × Childless rows.now items.now msg.now mark given row pre b at count (get_or path.now step 0) }
     ensures { Follows rows.now items.now msg.now mark given row pre b at count path.now step result }
 {
-    match pass_component(rows, items, row, mark, given, msg, pre, b, at, count) {
-        Read::Refused(f) => Followed::Refused(f),
-        Read::Got(c) => Followed::Nowhere(Lost {
-            at: c.at,
-            count: c.count,
-            step,
-        }),
-    }
+    let end = pass_component(rows, items, row, mark, given, msg, pre, b, at, count)?;
+    Ok(Followed {
+        at: end.at,
+        count: end.count,
+        leads: Err(step),
+    })
 }
 
 // A component of a row with its mark and default, and presence bit b of the preamble at `pre`; the path from a step on.
@@ -112,7 +105,7 @@ pub fn follow(
     count: usize,
     path: &[u64],
     step: usize,
-) -> Followed
+) -> Result<Followed, Fault>
     requires { SoundTable rows.now items.now × (row < length rows.now / row_width) × (at ≤ length msg.now) × (length msg.now ≤ 65535) × Fitting (type_of rows.now items.now row) mark given × (pre ≤ length msg.now) × (b < 1024) }
     ensures { Follows rows.now items.now msg.now mark given row pre b at count path.now step result }
 {
@@ -122,47 +115,34 @@ pub fn follow(
             rows, items, row, mark, given, msg, pre, b, at, count, path, step,
         );
     }
-    match open_component(
+    let opened = open_component(
         rows, items, row, mark, given, msg, pre, b, at, count, path[step],
-    ) {
-        Opened::Refused(f) => Followed::Refused(f),
-        Opened::Nowhere => follow_nowhere(
+    )?;
+    match opened {
+        None => follow_nowhere(
             rows, items, row, mark, given, msg, pre, b, at, count, path, step,
         ),
-        Opened::Into(o) => match follow(
-            rows,
-            items,
-            o.row,
-            o.mark,
-            o.given,
-            msg,
-            at,
-            o.bit,
-            o.at,
-            o.count,
-            path,
-            step + 1,
-        ) {
-            Followed::Refused(f) => Followed::Refused(f),
-            Followed::Nowhere(l) => match pass_behind(rows, items, row, o, msg, at, l.at, l.count) {
-                Read::Refused(f) => Followed::Refused(f),
-                Read::Got(c) => Followed::Nowhere(Lost {
-                    at: c.at,
-                    count: c.count,
-                    step: l.step,
-                }),
-            },
-            Followed::Found(w) => match pass_behind(rows, items, row, o, msg, at, w.at, w.count) {
-                Read::Refused(f) => Followed::Refused(f),
-                Read::Got(c) => {
-                    let spot = w.spot;
-                    Followed::Found(Way {
-                        at: c.at,
-                        count: c.count,
-                        spot,
-                    })
-                }
-            },
-        },
+        Some(o) => {
+            let child = follow(
+                rows,
+                items,
+                o.row,
+                o.mark,
+                o.given,
+                msg,
+                at,
+                o.bit,
+                o.at,
+                o.count,
+                path,
+                step + 1,
+            )?;
+            let end = pass_behind(rows, items, row, o, msg, at, child.at, child.count)?;
+            Ok(Followed {
+                at: end.at,
+                count: end.count,
+                leads: child.leads,
+            })
+        }
     }
 }

@@ -4,16 +4,14 @@ ghost use Rattle.x696.specs.Read.{message, read_component};
 ghost use Rattle.x696.specs.Operations.{node_limit};
 ghost use Rattle.x696.specs.Table.{row_width, row_kind, type_of};
 ghost use Rattle.x696.specs.SoundTable.{SoundTable};
-ghost use Rattle.octets.specs.Answers.{fault};
 ghost use Rattle.octets.specs.Presence.{bit_at};
 ghost use Rattle.kinds.specs.Run.{inside_at};
 ghost use Rattle.finding.specs.Passing.{Fitting};
 ghost use Rattle.finding.specs.Leading.{Opens};
 
 use crate::passing::{pass_components, pass_elements};
-use crate::spot::{Opened, Opening};
-use kinds::cursor::Read;
-use octets::answers::{Fault, ReadQuantity, ReadTag};
+use crate::spot::Opening;
+use octets::faults::{Cause, Fault};
 use octets::presence::is_present;
 use octets::tags::read_tag;
 use octets::variable::read_quantity;
@@ -24,12 +22,6 @@ use table::words::{
     row_kind,
 };
 
-fn refuse(number: u64, place: usize) -> Opened
-    ensures { result ≡ Opened.Refused (fault number place) }
-{
-    Opened::Refused(Fault { number, place })
-}
-
 // Kind 10: preamble, then the components before the step's own (16.1).
 fn open_sequence(
     rows: &[u64],
@@ -39,26 +31,26 @@ fn open_sequence(
     at: usize,
     count: usize,
     step: u64,
-) -> Opened
+) -> Result<Option<Opening>, Fault>
     requires { SoundTable rows.now items.now × (row < length rows.now / row_width) × (at ≤ length msg.now) × (length msg.now ≤ 65535) × (count < 4096) × (row_kind rows.now row ≡ 10) }
     ensures { Opens rows.now items.now msg.now row at step (inside_at (type_of rows.now items.now row) msg.now at count) result }
 {
     let first = row_first(rows, row) as usize;
     let n = row_count(rows, row);
     if n <= step {
-        return Opened::Nowhere;
+        return Ok(None);
     }
     let own = first + step as usize;
     let bit = count_marked(items, first, step as usize);
     let bits = bit + count_marked(items, own, (n - step) as usize);
     if msg.len() - at < (bits + 7) / 8 {
-        return refuse(5, at);
+        return Err(Cause::Short.at(at));
     }
     // the unused bits are 0 (16.2.4)
     if !is_padded(msg, at, bits) {
-        return refuse(6, at);
+        return Err(Cause::NotCanonical.at(at));
     }
-    match pass_components(
+    let before = pass_components(
         rows,
         items,
         row,
@@ -69,20 +61,18 @@ fn open_sequence(
         0,
         at + (bits + 7) / 8,
         count + 1,
-    ) {
-        Read::Refused(f) => Opened::Refused(f),
-        Read::Got(c) => Opened::Into(Opening {
-            row: component_row(items, own) as usize,
-            mark: component_mark(items, own),
-            given: component_default(items, own),
-            bit,
-            at: c.at,
-            count: c.count,
-            after: own + 1,
-            later: bit + is_marked(items, own),
-            left: n - (step + 1),
-        }),
-    }
+    )?;
+    Ok(Some(Opening {
+        row: component_row(items, own) as usize,
+        mark: component_mark(items, own),
+        given: component_default(items, own),
+        bit,
+        at: before.at,
+        count: before.count,
+        after: own + 1,
+        later: bit + is_marked(items, own),
+        left: n - (step + 1),
+    }))
 }
 
 // Kind 11: quantity, then the elements before the step's own (17.1).
@@ -94,34 +84,28 @@ fn open_sequence_of(
     at: usize,
     count: usize,
     step: u64,
-) -> Opened
+) -> Result<Option<Opening>, Fault>
     requires { SoundTable rows.now items.now × (row < length rows.now / row_width) × (at ≤ length msg.now) × (length msg.now ≤ 65535) × (count < 4096) × (row_kind rows.now row ≡ 11) }
     ensures { Opens rows.now items.now msg.now row at step (inside_at (type_of rows.now items.now row) msg.now at count) result }
 {
     let inner = component_row(items, row_first(rows, row) as usize) as usize;
-    match read_quantity(msg, at, at) {
-        ReadQuantity::Refused(f) => Opened::Refused(f),
-        ReadQuantity::Got(q) => {
-            let many = q.many.0;
-            if many <= step {
-                return Opened::Nowhere;
-            }
-            match pass_elements(rows, items, inner, step, msg, q.next, count + 1) {
-                Read::Refused(f) => Opened::Refused(f),
-                Read::Got(c) => Opened::Into(Opening {
-                    row: inner,
-                    mark: 0,
-                    given: 0,
-                    bit: 0,
-                    at: c.at,
-                    count: c.count,
-                    after: 0,
-                    later: 0,
-                    left: many - (step + 1),
-                }),
-            }
-        }
+    let q = read_quantity(msg, at, at)?;
+    let many = q.many.0;
+    if many <= step {
+        return Ok(None);
     }
+    let before = pass_elements(rows, items, inner, step, msg, q.next, count + 1)?;
+    Ok(Some(Opening {
+        row: inner,
+        mark: 0,
+        given: 0,
+        bit: 0,
+        at: before.at,
+        count: before.count,
+        after: 0,
+        later: 0,
+        left: many - (step + 1),
+    }))
 }
 
 // Kind 12: tag (20.1). The step 0 alone leads into the alternative.
@@ -133,36 +117,32 @@ fn open_choice(
     at: usize,
     count: usize,
     step: u64,
-) -> Opened
+) -> Result<Option<Opening>, Fault>
     requires { SoundTable rows.now items.now × (row < length rows.now / row_width) × (at ≤ length msg.now) × (length msg.now ≤ 65535) × (count < 4096) × (row_kind rows.now row ≡ 12) }
     ensures { Opens rows.now items.now msg.now row at step (inside_at (type_of rows.now items.now row) msg.now at count) result }
 {
     if step != 0 {
-        return Opened::Nowhere;
+        return Ok(None);
     }
     let first = row_first(rows, row) as usize;
     let n = row_count(rows, row) as usize;
-    match read_tag(msg, at, at) {
-        ReadTag::Refused(f) => Opened::Refused(f),
-        ReadTag::Got(g) => {
-            let k = find_tag(items, first, n, g.class, g.number);
-            // a tag of the type
-            if n <= k {
-                return refuse(7, at);
-            }
-            Opened::Into(Opening {
-                row: alternative_row(items, first + k) as usize,
-                mark: 0,
-                given: 0,
-                bit: 0,
-                at: g.next,
-                count: count + 1,
-                after: 0,
-                later: 0,
-                left: 0,
-            })
-        }
+    let g = read_tag(msg, at, at)?;
+    let k = find_tag(items, first, n, g.class, g.number);
+    // a tag of the type
+    if n <= k {
+        return Err(Cause::NotAllowed.at(at));
     }
+    Ok(Some(Opening {
+        row: alternative_row(items, first + k) as usize,
+        mark: 0,
+        given: 0,
+        bit: 0,
+        at: g.next,
+        count: count + 1,
+        after: 0,
+        later: 0,
+        left: 0,
+    }))
 }
 
 // A group of any kind; a kind without components has no step.
@@ -174,13 +154,13 @@ fn open_group(
     at: usize,
     count: usize,
     step: u64,
-) -> Opened
+) -> Result<Option<Opening>, Fault>
     requires { SoundTable rows.now items.now × (row < length rows.now / row_width) × (at ≤ length msg.now) × (length msg.now ≤ 65535) × (count < 4096) }
     ensures { Opens rows.now items.now msg.now row at step (inside_at (type_of rows.now items.now row) msg.now at count) result }
 {
     let kind = row_kind(rows, row);
     if kind < 10 {
-        return Opened::Nowhere;
+        return Ok(None);
     }
     if kind == 10 {
         return open_sequence(rows, items, row, msg, at, count, step);
@@ -205,18 +185,18 @@ pub fn open_component(
     at: usize,
     count: usize,
     step: u64,
-) -> Opened
+) -> Result<Option<Opening>, Fault>
     requires { SoundTable rows.now items.now × (row < length rows.now / row_width) × (at ≤ length msg.now) × (length msg.now ≤ 65535) × Fitting (type_of rows.now items.now row) mark given × (pre ≤ length msg.now) × (b < 1024) }
     ensures { Opens rows.now items.now msg.now row at step (read_component node_limit mark given (type_of rows.now items.now row) (bit_at msg.now pre b) (length msg.now) (message (drop at msg.now) count)) result }
 {
     if 4096 <= count {
-        return Opened::Nowhere;
+        return Ok(None);
     }
     if mark == 0 {
         return open_group(rows, items, row, msg, at, count, step);
     }
     if !is_present(msg, pre, b) {
-        return Opened::Nowhere;
+        return Ok(None);
     }
     open_group(rows, items, row, msg, at, count, step)
 }

@@ -8,7 +8,8 @@ ghost use Rattle.octets.specs.Presence.{bit_at};
 ghost use Rattle.kinds.specs.Run.{number_of};
 ghost use Rattle.finding.specs.Passing.{Passed, Fitting, components_at, left_out_at, none};
 
-use kinds::cursor::{Read, got, refuse};
+use kinds::cursor::Cursor;
+use octets::faults::{Cause, Fault};
 use octets::presence::is_present;
 use reading::parts::check_default;
 use reading::value::{read_members, read_value};
@@ -21,7 +22,7 @@ pub fn pass_value(
     msg: &[u8],
     at: usize,
     count: usize,
-) -> Read
+) -> Result<Cursor, Fault>
     requires { SoundTable rows.now items.now × (row < length rows.now / row_width) × (at ≤ length msg.now) × (length msg.now ≤ 65535) }
     ensures { Passed number_of msg.now (read node_limit (type_of rows.now items.now row) (length msg.now) (message (drop at msg.now) count)) result }
 {
@@ -41,13 +42,18 @@ pub fn pass_value(
 }
 
 // A component that is not carried: its node is counted, ABSENT or its DEFAULT.
-fn pass_missing(given: u64, at: usize, count: usize) -> Read
+fn pass_missing(given: u64, at: usize, count: usize) -> Result<Cursor, Fault>
     ensures { result ≡ left_out_at given at count }
 {
     if 4096 <= count {
-        return refuse(10, at);
+        return Err(Cause::Nodes.at(at));
     }
-    got(at, count + 1, 0, given)
+    Ok(Cursor {
+        at,
+        count: count + 1,
+        used: 0,
+        number: given,
+    })
 }
 
 // A component of a row with its mark and default, and presence bit b of the preamble at `pre`.
@@ -62,7 +68,7 @@ pub fn pass_component(
     b: usize,
     at: usize,
     count: usize,
-) -> Read
+) -> Result<Cursor, Fault>
     requires { SoundTable rows.now items.now × (row < length rows.now / row_width) × (at ≤ length msg.now) × (length msg.now ≤ 65535) × Fitting (type_of rows.now items.now row) mark given × (pre ≤ length msg.now) × (b < 1024) }
     ensures { Passed number_of msg.now (read_component node_limit mark given (type_of rows.now items.now row) (bit_at msg.now pre b) (length msg.now) (message (drop at msg.now) count)) result }
 {
@@ -72,10 +78,8 @@ pub fn pass_component(
     if !is_present(msg, pre, b) {
         return pass_missing(given, at, count);
     }
-    match pass_value(rows, items, row, msg, at, count) {
-        Read::Refused(f) => Read::Refused(f),
-        Read::Got(c) => check_default(mark, given, at, c),
-    }
+    let value = pass_value(rows, items, row, msg, at, count)?;
+    check_default(mark, given, at, value)
 }
 
 // n components of a row from item `first` on, whose presence bits begin with bit b of the preamble at `pre`.
@@ -90,13 +94,13 @@ pub fn pass_components(
     b: usize,
     at: usize,
     count: usize,
-) -> Read
+) -> Result<Cursor, Fault>
     requires { SoundTable rows.now items.now × (row < length rows.now / row_width) × (at ≤ length msg.now) × (length msg.now ≤ 65535) × (first + n ≤ length items.now / item_width) × Each (Component rows.now items.now row) first n × (pre ≤ length msg.now) × (b + n ≤ 1024) }
     ensures { Passed none msg.now (components_at rows.now items.now msg.now pre b first n (message (drop at msg.now) count)) result }
 {
     let mut nodes = [0u64; 1];
     let mut contents = [0u8; 1];
-    match read_members(
+    let end = read_members(
         rows,
         items,
         row,
@@ -112,10 +116,13 @@ pub fn pass_components(
         0,
         &mut nodes[..0],
         &mut contents[..0],
-    ) {
-        Read::Refused(f) => Read::Refused(f),
-        Read::Got(d) => got(d.at, d.count, 0, 0),
-    }
+    )?;
+    Ok(Cursor {
+        at: end.at,
+        count: end.count,
+        used: 0,
+        number: 0,
+    })
 }
 
 // n elements of a row.
@@ -127,13 +134,13 @@ pub fn pass_elements(
     msg: &[u8],
     at: usize,
     count: usize,
-) -> Read
+) -> Result<Cursor, Fault>
     requires { SoundTable rows.now items.now × (row < length rows.now / row_width) × (at ≤ length msg.now) × (length msg.now ≤ 65535) }
     ensures { Passed none msg.now (times (λ s. read node_limit (type_of rows.now items.now row) (length msg.now) s) n (message (drop at msg.now) count)) result }
 {
     let mut nodes = [0u64; 1];
     let mut contents = [0u8; 1];
-    match read_members(
+    let end = read_members(
         rows,
         items,
         row + 1,
@@ -149,8 +156,11 @@ pub fn pass_elements(
         0,
         &mut nodes[..0],
         &mut contents[..0],
-    ) {
-        Read::Refused(f) => Read::Refused(f),
-        Read::Got(d) => got(d.at, d.count, 0, 0),
-    }
+    )?;
+    Ok(Cursor {
+        at: end.at,
+        count: end.count,
+        used: 0,
+        number: 0,
+    })
 }

@@ -1,6 +1,4 @@
 // What following a path answers, step by step.
-use octets::answers::Fault;
-
 // A child that a step leads into: its row, mark and default, the number of its presence bit, where its own octets
 // begin and the nodes counted before it. Then what stands behind it: the item and the presence bit of the next
 // component, and how many are left.
@@ -15,13 +13,6 @@ pub struct Opening {
     pub after: usize,
     pub later: usize,
     pub left: u64,
-}
-
-#[derive(Clone, Copy)]
-pub enum Opened {
-    Into(Opening),
-    Nowhere,
-    Refused(Fault),
 }
 
 // Where the component at a path stands: its row, mark and default; whether it is ABSENT; the first of its own octets
@@ -41,25 +32,19 @@ pub struct Spot {
     pub bit: usize,
 }
 
-// A value that was read whole, as far as octet `at` and with `count` nodes: the path leads to a component of it, or
-// nowhere at a step.
+// A value that was read whole, as far as octet `at` and with `count` nodes, and where the path leads in it: to a
+// component, or nowhere at a step.
+#[derive(Clone, Copy)]
+pub struct Followed {
+    pub at: usize,
+    pub count: usize,
+    pub leads: Result<Spot, usize>,
+}
+
+// The same where it leads to a component.
 #[derive(Clone, Copy)]
 pub struct Way {
     pub at: usize,
     pub count: usize,
     pub spot: Spot,
-}
-
-#[derive(Clone, Copy)]
-pub struct Lost {
-    pub at: usize,
-    pub count: usize,
-    pub step: usize,
-}
-
-#[derive(Clone, Copy)]
-pub enum Followed {
-    Found(Way),
-    Nowhere(Lost),
-    Refused(Fault),
 }

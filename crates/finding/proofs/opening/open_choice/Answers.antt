@@ -1,5 +1,6 @@
 -- The tag, which names the alternative: one law for each return.
 -- Assumes nothing.
+use Rattle.std.proofs.lemmas.Result.{err_from_is_err_and}
 use mathlib.Core.Path.{refl}
 use native.Mathlib.Omega.{arith}
 use Rattle.x696.proofs.TableRows.{choice_row}
@@ -26,9 +27,9 @@ pub returns-then-n-k : goal.returns-then-n-k
 returns-then-n-k c =
     let sound = c.requires.0.row c.args.row c.requires.1 in
     opened_refused (tag_unknown _ _ _ _ _ _ c.requires.2 sound c.requires.5 c.read_tag.ensures _ _ _ _
-    c.in-Got.is
+    c.in_ok-g.was
     c.row_first-first.ensures c.row_count-n.ensures c.find_tag-k.ensures.0
-    c.if-n-k.true) c.refuse.ensures
+    c.if-n-k.true) c.at.ensures
 
 pub overflow_add-first : goal.overflow_add-first
 overflow_add-first c =
@@ -42,18 +43,19 @@ alternative_row-requires c =
     let row = choice_row _ _ _ sound c.requires.5 in
     omega (arith, row.range, c.row_first-first.ensures, c.row_count-n.ensures, c.if-n-k.false)
 
-pub returns-in-Refused : goal.returns-in-Refused
-returns-in-Refused c =
+pub returns-in_err-g : goal.returns-in_err-g
+returns-in_err-g c =
     let sound = c.requires.0.row c.args.row c.requires.1 in
-    opened_fault _ (tag_stops _ _ _ _ _ _ c.requires.2 sound c.requires.5 c.read_tag.ensures _
-    c.in-Refused.is)
+    let p = err_from_is_err_and c.from_residual.result c.from_residual.ensures.1 in
+    rw (p.1, p.2) (opened_fault _ (tag_stops _ _ _ _ _ _ c.requires.2 sound c.requires.5 c.read_tag.ensures _
+    c.in_err-g.was))
 
-pub returns-else-n-k : goal.returns-else-n-k
-returns-else-n-k c =
+pub returns : goal.returns
+returns c =
     let sound = c.requires.0.row c.args.row c.requires.1 in
     let below = below_known 8 c.args.msg.now (λ i. (c.type_inv.msg i).fits) in
     rw c.if-step-ne0.false (opened_into (choice_leads _ _ _ _ _ _ c.requires.2 sound c.requires.5 _ _ _
-    c.read_tag.ensures _ c.in-Got.is
+    c.read_tag.ensures _ c.in_ok-g.was
     c.row_first-first.ensures c.row_count-n.ensures c.find_tag-k.ensures.0
     c.if-n-k.false below _ c.alternative_row.ensures
     refl refl refl refl refl refl))

@@ -1,5 +1,6 @@
 -- The preamble, then the components before the step's own: one law for each return.
 -- Assumes nothing.
+use Rattle.std.proofs.lemmas.Result.{err_from_is_err_and}
 use mathlib.Core.Path.{refl}
 use native.Mathlib.Omega.{arith}
 use native.Mathlib.Nat.{add_assoc}
@@ -64,7 +65,7 @@ returns-then-msg-at c =
     c.row_count-n.ensures
     (all_marks _ _ _ _ _ _ c.if-n-step.false c.count_marked-bit.ensures.0
     c.count_marked.ensures.0)
-    (preamble_short _ _ _ c.requires.2 c.if-msg-at.true)) c.refuse.ensures
+    (preamble_short _ _ _ c.requires.2 c.if-msg-at.true)) c.at.ensures
 
 pub is_padded-requires : goal.is_padded-requires
 is_padded-requires c =
@@ -91,7 +92,7 @@ returns-then-not-is_padded c =
     (all_marks _ _ _ _ _ _ c.if-n-step.false c.count_marked-bit.ensures.0 c.count_marked.ensures.0)
     (preamble_padded _ _ _ c.requires.2 c.if-msg-at.false _ c.is_padded.ensures
     c.if-not-is_padded.true))
-    c.refuse-then-not-is_padded.ensures
+    c.at-then-not-is_padded.ensures
 
 pub pass_components-requires : goal.pass_components-requires
 pass_components-requires c =
@@ -156,24 +157,25 @@ is_marked-requires c =
     let row = sequence_row _ _ _ sound c.requires.5 in
     omega (arith, row.range, c.row_first-first.ensures, c.row_count-n.ensures, c.if-n-step.false)
 
-pub returns-in-Refused : goal.returns-in-Refused
-returns-in-Refused c =
+pub returns-in_err-before : goal.returns-in_err-before
+returns-in_err-before c =
     let sound = c.requires.0.row c.args.row c.requires.1 in
     let below = below_known 8 c.args.msg.now (λ i. (c.type_inv.msg i).fits) in
-    opened_fault _ (before_stops _ _ _ _ _ _ c.requires.2 sound c.requires.5 _ _ _ c.row_first-first.ensures
+    let p = err_from_is_err_and c.from_residual.result c.from_residual.ensures.1 in
+    rw (p.1, p.2) (opened_fault _ (before_stops _ _ _ _ _ _ c.requires.2 sound c.requires.5 _ _ _ c.row_first-first.ensures
     c.row_count-n.ensures c.if-n-step.false _ _ c.count_marked-bit.ensures.0 c.count_marked.ensures.0 below
     (preamble_got _ _ _ c.requires.2 c.if-msg-at.false _ c.is_padded.ensures c.if-not-is_padded.false)
-    (c.pass_components.ensures.stopped _ c.in-Refused.is))
+    (c.pass_components.ensures.stopped _ c.in_err-before.was)))
 
-pub returns-in-Got : goal.returns-in-Got
-returns-in-Got c =
+pub returns : goal.returns
+returns c =
     let sound = c.requires.0.row c.args.row c.requires.1 in
     let below = below_known 8 c.args.msg.now (λ i. (c.type_inv.msg i).fits) in
     opened_into (sequence_leads _ _ _ _ _ _ c.requires.2 sound c.requires.5 _ _ _ c.row_first-first.ensures
     c.row_count-n.ensures c.if-n-step.false _ _ c.count_marked-bit.ensures.0 c.count_marked.ensures.0
     below
     (preamble_got _ _ _ c.requires.2 c.if-msg-at.false _ c.is_padded.ensures c.if-not-is_padded.false)
-    (c.pass_components.ensures.went _ c.in-Got.is) _ c.component_row.ensures
+    (c.pass_components.ensures.went _ c.in_ok-before.was) _ c.component_row.ensures
     c.component_mark.ensures
     c.component_default.ensures refl refl refl (add_assoc _ _ _)
     (rw c.is_marked.ensures.0 refl) refl c.count_marked-bit.ensures.1 c.requires.0.few_items (omega

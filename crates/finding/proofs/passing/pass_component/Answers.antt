@@ -1,5 +1,6 @@
 -- Plain, missing or carried: one law for each return.
 -- Assumes nothing.
+use Rattle.std.proofs.lemmas.Result.{err_from_is_err_and}
 use Rattle.octets.proofs.Octets.{below_known}
 use Rattle.finding.proofs.Parts.{passed_by, passed_fault, plain_is, missing_passed, carried_stops}
 use Rattle.finding.proofs.Parts.{carried_passed}
@@ -14,15 +15,16 @@ returns-then-not-is_present c =
     c.requires.4 c.if-not-is_present.true
     c.pass_missing.ensures
 
-pub returns-in-Refused : goal.returns-in-Refused
-returns-in-Refused c =
-    passed_fault _ (carried_stops _ _ _ _ _ _ _ _ c.requires.2 c.if-mark-eq0.false _ c.is_present.ensures
+pub returns-in_err-value : goal.returns-in_err-value
+returns-in_err-value c =
+    let p = err_from_is_err_and c.from_residual.result c.from_residual.ensures.1 in
+    rw (p.1, p.2) (passed_fault _ (carried_stops _ _ _ _ _ _ _ _ c.requires.2 c.if-mark-eq0.false _ c.is_present.ensures
     c.requires.4 c.if-not-is_present.false
-    (c.pass_value-2.ensures.stopped _ c.in-Refused.is))
+    (c.pass_value-2.ensures.stopped _ c.in_err-value.was)))
 
-pub returns-in-Got : goal.returns-in-Got
-returns-in-Got c =
+pub returns : goal.returns
+returns c =
     let below = below_known 8 c.args.msg.now (λ i. (c.type_inv.msg i).fits) in
     carried_passed _ _ _ _ _ _ _ _ c.requires.2 c.if-mark-eq0.false _ c.is_present.ensures c.requires.4
     c.if-not-is_present.false
-    (c.pass_value-2.ensures.went _ c.in-Got.is) below c.check_default.ensures
+    (c.pass_value-2.ensures.went _ c.in_ok-value.was) below c.check_default.ensures

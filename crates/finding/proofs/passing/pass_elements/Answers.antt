@@ -1,5 +1,7 @@
 -- Elements are read in one go, as the members of a group, with nothing lent.
 -- Assumes nothing.
+use Rattle.std.proofs.lemmas.Result.{err_from_is_err_and}
+use mathlib.Core.Path.{refl}
 use native.Mathlib.Omega.{arith}
 use Rattle.reading.proofs.Members.{members_alone, times_members}
 use Rattle.finding.proofs.Parts.{all_stopped, all_passed}
@@ -16,11 +18,13 @@ read_members-requires c = (
   c.requires.3,
 )
 
-pub returns-in-Refused : goal.returns-in-Refused
-returns-in-Refused c = all_stopped (times_members _ _ _ _ _ _ _ _ _) c.read_members.ensures _ c.in-Refused.is
+pub returns-in_err-end : goal.returns-in_err-end
+returns-in_err-end c =
+    let p = err_from_is_err_and c.from_residual.result c.from_residual.ensures.1 in
+    rw (p.1, p.2) (all_stopped (times_members _ _ _ _ _ _ _ _ _) c.read_members.ensures _ c.in_err-end.was)
 
-pub returns-in-Got : goal.returns-in-Got
-returns-in-Got c =
+pub returns : goal.returns
+returns c =
     all_passed (times_members _ _ _ _ _ _ _ _ _)
-    c.read_members.ensures _ c.in-Got.is
-    c.got.ensures
+    c.read_members.ensures _ c.in_ok-end.was
+    refl

@@ -1,5 +1,6 @@
 -- The message is measured, read and followed, and its end compared: one law for each return.
 -- Assumes nothing.
+use Rattle.octets.proofs.Refusing.{refuses}
 use mathlib.Core.Path.{refl}
 use native.Mathlib.Omega.{arith}
 use Rattle.octets.proofs.Octets.{below_known}
@@ -8,7 +9,7 @@ use Rattle.finding.proofs.PlaceLaws.{lost_at, found_behind}
 use Rattle.finding.proofs.places.find_below.Goals as goal
 
 pub returns-then-msg-gt65535 : goal.returns-then-msg-gt65535
-returns-then-msg-gt65535 c = place_stop (long_behind _ _ _ c.if-msg-gt65535.true) c.stop.ensures
+returns-then-msg-gt65535 c = place_stop (long_behind _ _ _ c.if-msg-gt65535.true) (refuses c.at.ensures c.in_part.ensures)
 
 pub follow-requires : goal.follow-requires
 follow-requires c = (
@@ -26,31 +27,26 @@ follow-requires c = (
   omega arith,
 )
 
-pub returns-then-at-msg : goal.returns-then-at-msg
-returns-then-at-msg c =
-    let h = c.follow.ensures.lost _ c.in-Nowhere.is in
-    place_stop (left_behind _ _ _ _ _ (omega (arith, c.if-msg-gt65535.false)) h.reads h.inside c.if-at-msg.true)
-    c.stop-then-at-msg.ensures
+pub returns-then-end-msg : goal.returns-then-end-msg
+returns-then-end-msg c =
+    let h = c.follow.ensures.went _ c.in-Ok.is in
+    place_stop (left_behind _ _ _ _ _ (omega (arith, c.if-msg-gt65535.false)) h.reads h.inside c.if-end-msg.true)
+    (refuses c.at-then-end-msg.ensures c.in_part-then-end-msg.ensures)
 
-pub returns-then-at-msg-2 : goal.returns-then-at-msg-2
-returns-then-at-msg-2 c =
-    let h = c.follow.ensures.found _ c.in-Found.is in
-    place_stop (left_behind _ _ _ _ _ (omega (arith, c.if-msg-gt65535.false)) h.reads h.inside c.if-at-msg-2.true)
-    c.stop-then-at-msg-2.ensures
-
-pub returns-in-Refused : goal.returns-in-Refused
-returns-in-Refused c =
+pub returns-in-Err : goal.returns-in-Err
+returns-in-Err c =
     place_stop (fault_behind _ _ _ _ _ (omega (arith, c.if-msg-gt65535.false)) _ (c.follow.ensures.stopped _
-    c.in-Refused.is)) c.stop-in-Refused.ensures
+    c.in-Err.is)) c.in_part-in-Err.ensures
 
-pub returns-else-at-msg : goal.returns-else-at-msg
-returns-else-at-msg c =
-    let h = c.follow.ensures.lost _ c.in-Nowhere.is in
-    place_stop (lost_at _ _ _ _ _ (omega (arith, c.if-msg-gt65535.false)) h c.if-at-msg.false) c.stop-in-Nowhere.ensures
+pub returns-in-Err-leads : goal.returns-in-Err-leads
+returns-in-Err-leads c =
+    let h = c.follow.ensures.went _ c.in-Ok.is in
+    place_stop (lost_at _ _ _ _ _ (omega (arith, c.if-msg-gt65535.false)) h c.if-end-msg.false c.in-Err-leads.is)
+    (refuses c.at-in-Err-leads.ensures c.in_part-in-Err-leads.ensures)
 
-pub returns-else-at-msg-2 : goal.returns-else-at-msg-2
-returns-else-at-msg-2 c =
-    let h = c.follow.ensures.found _ c.in-Found.is in
+pub returns-in-Ok-leads : goal.returns-in-Ok-leads
+returns-in-Ok-leads c =
+    let h = c.follow.ensures.went _ c.in-Ok.is in
     let below = below_known 8 c.args.msg.now (λ i. (c.type_inv.msg i).fits) in
     place_found (found_behind _ _ _ _ _ (omega (arith, c.if-msg-gt65535.false)) c.requires.0 c.requires.1 below h
-    c.if-at-msg-2.false)
+    c.if-end-msg.false c.in-Ok-leads.is)
