@@ -25,13 +25,14 @@ use Rattle.octets.specs.Presence.{with_bit, set_bit}
 use Rattle.octets.proofs.Stores.{sets_after}
 use Rattle.octets.proofs.EditBits.{set_bit_front}
 use Rattle.pens.specs.Put.{Put}
-use Rattle.pens.specs.declared.pen.Wrote.{Wrote}
-use Rattle.pens.specs.declared.pen.Wrote.TheVariants.{Got, Refused}
 use Rattle.writing.specs.Noted.{missing_at}
 use Rattle.writing.proofs.NodeTests.{kind_is}
 use Rattle.writing.proofs.Missing.{missing_got, carried_walk, carried_differs}
 use Rattle.finding.specs.declared.spot.Spot.{Spot}
 use Rattle.editing.specs.Splicing.{around, spliced_octets, Spliced}
+use Rattle.std.proofs.Common.{Result, Ok, Err}
+use Rattle.octets.specs.declared.faults.Fault.{Fault}
+use Rattle.pens.specs.declared.pen.Pen.{Pen}
 
 -- ---- the bit
 pub mark_none : (l l' : List ℕ) (m : ℕ) → m ≡ 0 → l ≡ cond (eqb m 0) l l'
@@ -138,15 +139,15 @@ module _ (rows items : List ℕ) (s : Spot) (ws cs : List ℕ) (n : ℕ) (msg ou
       omega (arith, inside marked, length-append (take s.start msg) (own y ++ drop s.end msg)) in
       e₄ ∙ rw (q, here, e₃) (over_bit (around s (own y) msg) out s.pre s.bit _ within))
 
-  pub splice_done : {l₁ l₂ l₃ l₄ : List ℕ} (r : Wrote) → l₁ ≡ sets out 0 (take s.start (drop 0 msg))
+  pub splice_done : {l₁ l₂ l₃ l₄ : List ℕ} (r : Result Pen Fault) → l₁ ≡ sets out 0 (take s.start (drop 0 msg))
       → Put ws cs (walk_component s.mark t (list_at ws cs 0)) own 0 0 s.start l₁ l₂ r
       → l₃ ≡ sets l₂ (s.start + n) (take (length msg - s.end) (drop s.end msg))
       → l₄ ≡ cond (eqb s.mark 0) l₃
       (set_bit l₃ s.pre s.bit (not (missing_at ws 0 (row_kind rows s.row) s.mark s.given)))
       → Spliced t s ws cs n msg out l₄
-  splice_done (Refused f) e₁ w e₃ e₄ y r walks en room inside =
+  splice_done (Err f) e₁ w e₃ e₄ y r walks en room inside =
       absurd (refused_never (sym (w.stopped f refl) ∙ walks))
-  splice_done (Got c) e₁ w e₃ e₄ y r walks en room inside =
+  splice_done (Ok c) e₁ w e₃ e₄ y r walks en room inside =
       let k = w.went c refl in
       let z = sym walks ∙ k.walks in
       let v : k.what ≡ y = cc in

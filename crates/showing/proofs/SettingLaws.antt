@@ -28,7 +28,6 @@ use Rattle.x696.specs.Table.{row_kind, row_flags, row_a, type_by, type_of}
 use Rattle.x696.specs.TableCheck.{default_sound}
 use Rattle.x696.proofs.TableLaws.{type_of_row}
 use Rattle.x696.specs.Editing.{Place, place_in, read_setting}
-use Rattle.table.specs.declared.reply.Reply.{Reply}
 use Rattle.kinds.specs.Run.{number_of}
 use Rattle.kinds.proofs.ByKind.{single_type}
 use Rattle.decoding.specs.Replied.{Refuses}
@@ -38,7 +37,11 @@ use Rattle.finding.specs.Placing.{Placed}
 use Rattle.showing.specs.Settings.{setting_as, answer_as, integer_setting, kind_setting}
 use Rattle.finding.specs.declared.spot.Way.{Way}
 use Rattle.showing.specs.declared.settings.Setting.{Setting}
-use Rattle.showing.specs.declared.settings.Setting.TheVariants.{Refused, Absent, Truth, Unsigned, Signed, Single}
+use Rattle.showing.specs.declared.settings.Setting.TheVariants.{Absent, Truth, Unsigned, Signed, Single}
+use Rattle.std.proofs.Common.{Ok, Err}
+use Rattle.octets.specs.declared.faults.Refusal.{Refusal}
+use Rattle.showing.specs.Settings.{told}
+use Rattle.x696.specs.Reply.{done}
 use Rattle.showing.specs.declared.settings.Setting.TheVariants.{Double, Size, Group}
 
 -- ---- by the row's kind
@@ -100,18 +103,17 @@ module _ (rows items : List ℕ) (row : ℕ) (msg path : List ℕ) where
         h.spot.fitting
         (sym h.spot.absent ∙ e)
 
-    pub setting_absent : w.spot.absent ≡ true → Absent ≡ answer_as (read_setting rows items row msg path)
-    unfolding read_setting then answer_as setting_as
+    pub setting_absent : w.spot.absent ≡ true → told (Ok Absent) ≡ answer_as (read_setting rows items row msg path)
+    unfolding read_setting then answer_as setting_as told
     setting_absent e = rw (h.is, absent_setting_lem t v (sym h.spot.absent ∙ e)) refl
 
     pub setting_there : {r : Setting} {k f a : ℕ} → w.spot.absent ≡ false → k ≡ row_kind rows w.spot.row
         → f ≡ row_flags rows w.spot.row
         → a ≡ row_a rows w.spot.row → r ≡ setting_as (kind_setting k f a w.spot.number)
-        → r ≡ answer_as (read_setting rows items row msg path)
-    unfolding read_setting then answer_as
+        → told (Ok r) ≡ answer_as (read_setting rows items row msg path)
+    unfolding read_setting then answer_as told
     setting_there {k = k} {f} {a} e ek ef ea er =
-        er
-        ∙ ap (λ n. setting_as (kind_setting k f a n)) h.spot.number
+        ap (λ s. done s) (er ∙ ap (λ n. setting_as (kind_setting k f a n)) h.spot.number)
         ∙ rw (
           h.is,
           there_setting t v (sym h.spot.absent ∙ e),
@@ -130,11 +132,10 @@ module _ (rows items : List ℕ) (row : ℕ) (msg path : List ℕ) where
         let fits = (component_there e (λ d. rw is refl)).0 in
         rw h.spot.number (small (rw is at fits))
 
-  pub setting_refused : {x : Reply} → Refuses asked x
-      → Refused (record { number = x.number; part = x.part; place = x.place })
-      ≡ answer_as (read_setting rows items row msg path)
-  unfolding read_setting then answer_as
-  setting_refused h = rw (h.is, h.reply) refl
+  pub setting_refused : {x : Refusal} → Refuses asked x
+      → told (Err x) ≡ answer_as (read_setting rows items row msg path)
+  unfolding read_setting then answer_as told
+  setting_refused h = rw h.is refl
 
 -- ---- the code's enum, kind by kind
 module _ (f a n : ℕ) where

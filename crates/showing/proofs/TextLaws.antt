@@ -27,7 +27,6 @@ use Rattle.x696.specs.Table.{row_kind, row_flags, row_a, row_b, type_by, type_of
 use Rattle.x696.proofs.TableLaws.{type_of_row}
 use Rattle.x696.specs.TableCheck.{default_sound}
 use Rattle.x696.specs.Editing.{Place, place_in, shown_at, show_text, shown_octets}
-use Rattle.table.specs.declared.reply.Reply.{Reply}
 use Rattle.kinds.specs.Run.{number_of}
 use Rattle.kinds.proofs.ByKind.{octets_type, bits_type}
 use Rattle.decoding.specs.Replied.{Refuses}
@@ -37,15 +36,16 @@ use Rattle.showing.specs.Settings.{integer_setting, kind_setting}
 use Rattle.showing.specs.Texts.{contents_size, PartOf, TextAnswer}
 use Rattle.finding.specs.declared.spot.Way.{Way}
 use Rattle.showing.specs.declared.texts.Part.{Part}
-use Rattle.showing.specs.declared.texts.Text.TheVariants.{Shown, Nothing}
+use Rattle.std.proofs.Common.{Some, None}
+use Rattle.octets.specs.declared.faults.Refusal.{Refusal}
 use Rattle.showing.proofs.SettingLaws.{kind_setting_lem, absent_setting_lem, there_setting, component_there}
 
 -- ---- answers
 module _ {msg : List ℕ} {s : MeantText} where
-  pub text_none : s ≡ fallback → TextAnswer msg s Nothing
+  pub text_none : s ≡ fallback → TextAnswer msg s None
   text_none e = record { shown = λ p z. let k : ◌≡◌ {A = ℕ} 0 1 = cc in absurd (omega arith); nothing = λ z. e }
 
-  pub text_shown : {p : Part} → PartOf msg s p → TextAnswer msg s (Shown p)
+  pub text_shown : {p : Part} → PartOf msg s p → TextAnswer msg s (Some p)
   text_shown {p} h = record {
     shown = λ q z. let k : p ≡ q = cc in rw (← k) h;
     nothing = λ z. let k : ◌≡◌ {A = ℕ} 0 1 = cc in absurd (omega arith);
@@ -144,7 +144,7 @@ module _ (rows items : List ℕ) (row : ℕ) (msg path : List ℕ) where
   abbrev asked : Answer Place
   asked = place_in rows items row msg path
 
-  pub text_refused : {x : Reply} → Refuses asked x → show_text rows items row msg path ≡ fallback
+  pub text_refused : {x : Refusal} → Refuses asked x → show_text rows items row msg path ≡ fallback
   unfolding show_text answer
   text_refused h = rw h.is refl
 

@@ -9,14 +9,14 @@ use Rattle.std.specs.Int.{w64}
 use Rattle.std.proofs.Common.{of_z}
 use Rattle.showing.specs.declared.flat.FlatSetting.{FlatSetting}
 use Rattle.showing.specs.declared.settings.Setting.{Setting}
-use Rattle.showing.specs.declared.settings.Setting.TheVariants.{Refused, Absent, Truth, Unsigned, Signed, Single}
+use Rattle.showing.specs.declared.settings.Setting.TheVariants.{Absent, Truth, Unsigned, Signed, Single}
+use Rattle.x696.specs.Reply.{Answer, refusal, done}
 use Rattle.showing.specs.declared.settings.Setting.TheVariants.{Double, Size, Group}
 
 unfoldable pub there_flat : (what word : ℕ) → FlatSetting
 there_flat k w = record { number = 0; part = 0; place = 0; what = k; word = w }
 
 unfoldable pub flat_of : Setting → FlatSetting
-flat_of (Refused f) = record { number = f.number; part = f.part; place = f.place; what = 0; word = 0 }
 flat_of Absent = there_flat 1 0
 flat_of (Truth b) = there_flat 2 (cond b 1 0)
 flat_of (Unsigned n) = there_flat 3 n
@@ -25,3 +25,8 @@ flat_of (Single x) = there_flat 5 (to_bits binary32 x)
 flat_of (Double x) = there_flat 6 (to_bits binary64 x)
 flat_of (Size n) = there_flat 7 n
 flat_of (Group n) = there_flat 8 n
+
+-- of an answer: a refusal's three numbers, or the setting
+unfoldable pub flat_answer : Answer Setting → FlatSetting
+flat_answer (refusal n q p) = record { number = n; part = q; place = p; what = 0; word = 0 }
+flat_answer (done s) = flat_of s

@@ -13,7 +13,10 @@ use Rattle.x696.specs.Setting.{Setting as Meant, absent_setting, truth, unsigned
 use Rattle.x696.specs.Setting.{string_size, group}
 use Rattle.x696.specs.Reply.{Answer, refusal, done}
 use Rattle.showing.specs.declared.settings.Setting.{Setting}
-use Rattle.showing.specs.declared.settings.Setting.TheVariants.{Refused, Absent, Truth, Unsigned, Signed, Single}
+use Rattle.showing.specs.declared.settings.Setting.TheVariants.{Absent, Truth, Unsigned, Signed, Single}
+use Rattle.std.specs.Prelude.{Result, Ok, Err}
+use Rattle.octets.specs.declared.faults.Refusal.{Refusal}
+use Rattle.table.specs.Replies.{as_answer}
 use Rattle.showing.specs.declared.settings.Setting.TheVariants.{Double, Size, Group}
 
 unfoldable pub setting_as : Meant → Setting
@@ -26,13 +29,17 @@ setting_as (double n) = Double (of_bits binary64 n)
 setting_as (string_size n) = Size n
 setting_as (group n) = Group n
 
-unfoldable pub answer_as : Answer Meant → Setting
-answer_as (refusal n q p) = Refused (record { number = n; part = q; place = p })
-answer_as (done s) = setting_as s
+unfoldable pub answer_as : Answer Meant → Answer Setting
+answer_as (refusal n q p) = refusal n q p
+answer_as (done s) = done (setting_as s)
+
+-- what the code answers, in the same terms: a refusal by its three numbers
+unfoldable pub told : Result Setting Refusal → Answer Setting
+told (Ok s) = done s
+told (Err x) = as_answer x
 
 -- and back: what each case tells, the bits of a real and the word of a number
 unfoldable pub setting_back : Setting → Answer Meant
-setting_back (Refused r) = refusal r.number r.part r.place
 setting_back Absent = done absent_setting
 setting_back (Truth x) = done (truth (bit x))
 setting_back (Unsigned n) = done (unsigned_number n)

@@ -1,11 +1,10 @@
--- A text as the code's enum has it: the part of the message, by its two ends, or nothing to show.
+-- A text as the code has it: the part of the message, by its two ends, or nothing to show.
 -- Assumes nothing.
 use Rattle.std.specs.Prelude.{◌≡◌, cond, List, ℕ, ◌-◌, ◌≤◌, length, eqb}
 use Rattle.x696.specs.Bits.{bit_octets}
 use Rattle.x696.specs.Setting.{Shown as Meant, fallback, part_of}
+use Rattle.std.specs.Prelude.{Option, Some, None}
 use Rattle.showing.specs.declared.texts.Part.{Part}
-use Rattle.showing.specs.declared.texts.Text.{Text}
-use Rattle.showing.specs.declared.texts.Text.TheVariants.{Shown, Nothing}
 
 -- the octets that a string's contents fill: a BIT STRING's number counts bits
 unfoldable pub contents_size : (kind number : ℕ) → ℕ
@@ -16,6 +15,6 @@ pub record PartOf (msg : List ℕ) (s : Meant) (p : Part) : Type 0 where
   pub ordered : p.start ≤ p.end
   pub inside : p.end ≤ length msg
 
-pub record TextAnswer (msg : List ℕ) (s : Meant) (r : Text) : Type 0 where
-  pub shown : (p : Part) → r ≡ Shown p → PartOf msg s p
-  pub nothing : r ≡ Nothing → s ≡ fallback
+pub record TextAnswer (msg : List ℕ) (s : Meant) (r : Option Part) : Type 0 where
+  pub shown : (p : Part) → r ≡ Some p → PartOf msg s p
+  pub nothing : r ≡ None → s ≡ fallback

@@ -4,9 +4,11 @@ ghost use Rattle.std.specs.Float.{binary32, binary64};
 ghost use Rattle.std.specs.Float.Ieee.{to_bits};
 ghost use Rattle.std.specs.Int.{w64};
 ghost use Rattle.std.proofs.Common.{of_z};
-ghost use Rattle.showing.specs.Flat.{there_flat, flat_of};
+ghost use Rattle.showing.specs.Settings.{told};
+ghost use Rattle.showing.specs.Flat.{there_flat, flat_of, flat_answer};
 
 use crate::settings::Setting;
+use octets::faults::Refusal;
 
 // A refusal's number, part and place, all 0 if there is none; what the setting is, and its word, both 0 if it is
 // refused.
@@ -67,17 +69,10 @@ fn there(what: u64, word: u64) -> FlatSetting
 }
 
 // Ruled out, for instance: a signed number as an unsigned one, and a real's value in place of its bits.
-pub fn flatten(s: Setting) -> FlatSetting
+fn flatten(s: Setting) -> FlatSetting
     ensures { result ≡ flat_of s }
 {
     match s {
-        Setting::Refused(f) => FlatSetting {
-            number: f.number,
-            part: f.part,
-            place: f.place,
-            what: 0,
-            word: 0,
-        },
         Setting::Absent => there(1, 0),
         Setting::Truth(b) => there(2, truth_word(b)),
         Setting::Unsigned(n) => there(3, n),
@@ -86,5 +81,22 @@ pub fn flatten(s: Setting) -> FlatSetting
         Setting::Double(x) => there(6, double_word(x)),
         Setting::Size(n) => there(7, n),
         Setting::Group(n) => there(8, n),
+    }
+}
+
+impl From<Result<Setting, Refusal>> for FlatSetting {
+    ghost from_gives = { λ a f. f ≡ flat_answer (told a) };
+
+    fn from(answer: Result<Setting, Refusal>) -> Self {
+        match answer {
+            Ok(setting) => flatten(setting),
+            Err(refusal) => FlatSetting {
+                number: refusal.cause.number(),
+                part: refusal.part.number(),
+                place: refusal.place as u64,
+                what: 0,
+                word: 0,
+            },
+        }
     }
 }

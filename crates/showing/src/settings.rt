@@ -1,24 +1,16 @@
 // A single setting: the component at a path, read by its type (document 01, "Editing and reading by path").
 ghost use Rattle.std.specs.Prelude.{◌≡◌, ◌^◌, ◌<◌};
 ghost use Rattle.x696.specs.Editing.{read_setting};
-ghost use Rattle.showing.specs.Settings.{integer_setting, kind_setting, setting_as, answer_as};
+ghost use Rattle.showing.specs.Settings.{integer_setting, kind_setting, setting_as, answer_as, told};
 
 use crate::numbers::{double_of, signed_of, single_of};
-use finding::places::{FoundIn, find_in};
+use finding::places::find_in;
+use octets::faults::Refusal;
 use table::bounds::is_unsigned;
 use table::words::{row_a, row_flags, row_kind};
 
-// A refusal's three numbers.
-#[derive(Clone, Copy)]
-pub struct Refusal {
-    pub number: u64,
-    pub part: u64,
-    pub place: u64,
-}
-
 #[derive(Clone, Copy)]
 pub enum Setting {
-    Refused(Refusal),
     Absent,
     Truth(bool),
     Unsigned(u64),
@@ -63,26 +55,23 @@ fn setting_of(kind: u64, flags: u64, a: u64, number: u64) -> Setting
 
 // Reads a setting, with the refusals of an edit up to PATH.
 // Ruled out, for instance: the setting of another component, and a DEFAULT one that is read as absent.
-pub fn read_setting(rows: &[u64], items: &[u64], row: u64, msg: &[u8], path: &[u64]) -> Setting
-    ensures { result ≡ answer_as (read_setting rows.now items.now row msg.now path.now) }
+pub fn read_setting(
+    rows: &[u64],
+    items: &[u64],
+    row: u64,
+    msg: &[u8],
+    path: &[u64],
+) -> Result<Setting, Refusal>
+    ensures { told result ≡ answer_as (read_setting rows.now items.now row msg.now path.now) }
 {
-    match find_in(rows, items, row, msg, path) {
-        FoundIn::Refused(r) => Setting::Refused(Refusal {
-            number: r.number,
-            part: r.part,
-            place: r.place,
-        }),
-        FoundIn::Found(w) => {
-            let s = w.spot;
-            if s.absent {
-                return Setting::Absent;
-            }
-            setting_of(
-                row_kind(rows, s.row),
-                row_flags(rows, s.row),
-                row_a(rows, s.row),
-                s.number,
-            )
-        }
+    let s = find_in(rows, items, row, msg, path)?.spot;
+    if s.absent {
+        return Ok(Setting::Absent);
     }
+    Ok(setting_of(
+        row_kind(rows, s.row),
+        row_flags(rows, s.row),
+        row_a(rows, s.row),
+        s.number,
+    ))
 }

@@ -3,7 +3,7 @@ ghost use Rattle.std.specs.Prelude.{◌≡◌, ◌+◌, ◌-◌, ◌<◌, ◌≤
 ghost use Rattle.x696.specs.Editing.{show_text, shown_octets};
 ghost use Rattle.showing.specs.Texts.{contents_size, TextAnswer};
 
-use finding::places::{FoundIn, find_in};
+use finding::places::find_in;
 use octets::units::{Bits, octets_of};
 use table::words::row_kind;
 
@@ -12,12 +12,6 @@ use table::words::row_kind;
 pub struct Part {
     pub start: usize,
     pub end: usize,
-}
-
-#[derive(Clone, Copy)]
-pub enum Text {
-    Shown(Part),
-    Nothing,
 }
 
 // How many octets the contents of a string fill, by its row's kind and its number; 0 for other kinds.
@@ -32,24 +26,24 @@ fn contents_size(kind: u64, number: u64) -> u64
 
 // Where the string at a path stands in the message, without its unused-bits octet: a string's contents are the last of
 // its octets.
-pub fn find_text(rows: &[u64], items: &[u64], row: u64, msg: &[u8], path: &[u64]) -> Text
+pub fn find_text(rows: &[u64], items: &[u64], row: u64, msg: &[u8], path: &[u64]) -> Option<Part>
     ensures { TextAnswer msg.now (show_text rows.now items.now row msg.now path.now) result }
 {
     match find_in(rows, items, row, msg, path) {
-        FoundIn::Refused(_r) => Text::Nothing,
-        FoundIn::Found(w) => {
+        Err(_refusal) => None,
+        Ok(w) => {
             let s = w.spot;
             if s.absent {
-                return Text::Nothing;
+                return None;
             }
             let kind = row_kind(rows, s.row);
             if kind < 7 {
-                return Text::Nothing;
+                return None;
             }
             if 9 < kind {
-                return Text::Nothing;
+                return None;
             }
-            Text::Shown(Part {
+            Some(Part {
                 start: s.end - contents_size(kind, s.number) as usize,
                 end: s.end,
             })
@@ -70,8 +64,8 @@ pub fn show_text<'a>(
     ensures { result.now ≡ shown_octets (show_text rows.now items.now row msg.now path.now) msg.now fallback.now }
 {
     match find_text(rows, items, row, msg, path) {
-        Text::Nothing => fallback,
-        Text::Shown(p) => {
+        None => fallback,
+        Some(p) => {
             let start = p.start;
             let end = p.end;
             &msg[start..end]

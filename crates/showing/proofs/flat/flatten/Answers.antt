@@ -7,10 +7,6 @@ use mir.ValLaws.{to_z-of_z}
 use Rattle.showing.specs.Flat.{flat_of}
 use Rattle.showing.proofs.flat.flatten.Goals as goal
 
-pub returns-in-Refused : goal.returns-in-Refused
-unfolding flat_of
-returns-in-Refused c = rw c.in-Refused.is refl
-
 pub returns-in-Absent : goal.returns-in-Absent
 unfolding flat_of
 returns-in-Absent c = rw (c.there.ensures, c.in-Absent.is) refl
