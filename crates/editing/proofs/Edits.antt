@@ -26,8 +26,14 @@ use Rattle.decoding.specs.Replied.{Refuses}
 use Rattle.finding.specs.Placing.{Placed}
 use Rattle.finding.specs.declared.spot.Spot.{Spot}
 use Rattle.finding.specs.declared.spot.Way.{Way}
-use Rattle.encoding.specs.Measures.{Accepted, Writes}
+use Rattle.encoding.specs.Measures.{Accepted, Writes, Puts}
 use Rattle.editing.specs.Splicing.{Spliced}
+use Rattle.std.proofs.Common.{Result, Ok, Err}
+use Rattle.octets.specs.declared.faults.Refusal.{Refusal}
+use Rattle.octets.specs.Part.{refused as refusing}
+use Rattle.octets.specs.declared.faults.Cause.TheVariants.{Nodes, Long, Room}
+use Rattle.octets.specs.declared.faults.Part.TheVariants.{Result as ResultPart}
+use Rattle.table.specs.Replies.{refused_reply}
 use Rattle.editing.proofs.Held.{start_is, number_is, spliced_is, bit_inside, finds, nodes_held}
 
 -- ---- the replies
@@ -38,9 +44,9 @@ module _ (rows items : List ℕ) (row : ℕ) (msg path ws cs out : List ℕ) whe
   abbrev E : Written
   E = edit rows items row msg path ws cs out
 
-  pub place_stops : {x : Reply} → Refuses asked x → Writes E out x
+  pub place_stops : {x : Refusal} → Refuses asked x → Puts E out (Err x)
   unfolding edit edited_octets written then answer
-  place_stops h = rw h.is (record { reply = h.reply; stored = refl })
+  place_stops h = rw h.is (record { reply = refl; stored = refl })
 
   module _ {w : Way} (h : Placed rows items row msg path asked w) where
     abbrev s : Spot
@@ -52,9 +58,9 @@ module _ (rows items : List ℕ) (row : ℕ) (msg path ws cs out : List ℕ) whe
     abbrev u : Ty
     u = type_of rows items s.row
 
-    pub list_stops : {r : Reply} → Refuses (in_part 2 (walk_list s.mark u ws cs)) r → Writes E out r
+    pub list_stops : {x : Refusal} → Refuses (in_part 2 (walk_list s.mark u ws cs)) x → Puts E out (Err x)
     unfolding edit edited_octets written then answer
-    list_stops r = rw (h.is, r.is) (record { reply = r.reply; stored = refl })
+    list_stops r = rw (h.is, r.is) (record { reply = refl; stored = refl })
 
     module _ {n : ℕ} (a : Accepted s.mark s.given u ws cs n) (words : Below 64 ws) (octets : Below 8 cs)
         (table : Below 64 items) where
@@ -92,15 +98,15 @@ module _ (rows items : List ℕ) (row : ℕ) (msg path ws cs out : List ℕ) whe
             a.octets,
           )
 
-      pub nodes_stop : {r : Reply} → 4096 < w.count - s.nodes + length ws / 2 → r ≡ as_reply (refusal_reply 10 4 0)
-          → Writes E out r
+      pub nodes_stop : {x : Refusal} → 4096 < w.count - s.nodes + length ws / 2 → x ≡ refusing Nodes ResultPart 0
+          → Puts E out (Err x)
       unfolding edit edited_octets edited written then answer in_part unless
       nodes_stop l e =
-          rw (h.is, a.whole, lt-leb (size new) node_limit (rw count_is l)) (record { reply = e; stored = refl })
+          rw (h.is, a.whole, lt-leb (size new) node_limit (rw count_is l)) (record { reply = rw e refl; stored = refl })
 
       module _ (few : w.count - s.nodes + length ws / 2 ≤ 4096) where
-        pub long_stop : {r : Reply} → 65535 < length msg - (s.end - s.start) + n → r ≡ as_reply (refusal_reply 4 4 0)
-            → Writes E out r
+        pub long_stop : {x : Refusal} → 65535 < length msg - (s.end - s.start) + n → x ≡ refusing Long ResultPart 0
+            → Puts E out (Err x)
         unfolding edit edited_octets edited result_fits written then answer in_part unless
         long_stop l e =
             rw (
@@ -108,12 +114,12 @@ module _ (rows items : List ℕ) (row : ℕ) (msg path ws cs out : List ℕ) whe
               a.whole,
               le-leb (size new) node_limit (rw count_is few),
               lt-leb (length (encode t new)) octet_limit (rw octets_is l),
-            ) (record { reply = e; stored = refl })
+            ) (record { reply = rw e refl; stored = refl })
 
         module _ (short : length msg - (s.end - s.start) + n ≤ 65535) where
-          pub room_stop : {r : Reply} → length out < length msg - (s.end - s.start) + n
-              → r ≡ as_reply (refusal_reply 12 4 0)
-              → Writes E out r
+          pub room_stop : {x : Refusal} → length out < length msg - (s.end - s.start) + n
+              → x ≡ refusing Room ResultPart 0
+              → Puts E out (Err x)
           unfolding edit edited_octets edited result_fits room_for written then answer in_part unless
           room_stop l e =
               rw (
@@ -122,7 +128,7 @@ module _ (rows items : List ℕ) (row : ℕ) (msg path ws cs out : List ℕ) whe
                 le-leb (size new) node_limit (rw count_is few),
                 le-leb (length (encode t new)) octet_limit (rw octets_is short),
                 lt-leb (length (encode t new)) (length out) (rw octets_is l),
-              ) (record { reply = e; stored = refl })
+              ) (record { reply = rw e refl; stored = refl })
 
           module _ (room : length msg - (s.end - s.start) + n ≤ length out) where
             start_at : s.start ≡ length (octets_before t h.whole path)
@@ -139,14 +145,22 @@ module _ (rows items : List ℕ) (row : ℕ) (msg path ws cs out : List ℕ) whe
                 (spliced_is t h.whole path msg h.encodes h.fits y s start_at pre bit _ _ _ _
                 (finds rows items row msg path h) refl h.spot.end)
 
-            pub edit_done : {out' : List ℕ} {r : Reply} → Spliced u s ws cs n msg out out'
-                → r ≡ as_reply (done_reply 0 (length msg - (s.end - s.start) + n)) → Writes E out' r
+            pub edit_done : {out' : List ℕ} → Spliced u s ws cs n msg out out'
+                → Puts E out' (Ok (length msg - (s.end - s.start) + n))
             unfolding edit edited_octets edited result_fits room_for written then answer in_part unless
-            edit_done p e =
+            edit_done p =
                 rw (
                   h.is,
                   a.whole,
                   le-leb (size new) node_limit (rw count_is few),
                   le-leb (length (encode t new)) octet_limit (rw octets_is short),
                   le-leb (length (encode t new)) (length out) (rw octets_is room),
-                ) (record { reply = e ∙ rw octets_is refl; stored = laid p })
+                ) (record { reply = rw octets_is refl; stored = laid p })
+
+-- ---- the reply
+module _ {w : Written} {out : List ℕ} {q : Reply} where
+  pub reply_refuses : {x : Refusal} → Puts w out (Err x) → q ≡ refused_reply x → Writes w out q
+  reply_refuses p e = record { reply = e ∙ ap as_reply p.reply; stored = p.stored }
+
+  pub reply_done : {n : ℕ} → Puts w out (Ok n) → q ≡ as_reply (done_reply 0 n) → Writes w out q
+  reply_done p e = record { reply = e ∙ ap as_reply p.reply; stored = p.stored }

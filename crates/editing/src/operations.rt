@@ -2,12 +2,48 @@
 // list as in encode; NODES, LONG and ROOM of the result.
 ghost use Rattle.std.specs.Prelude.{◌≡◌};
 ghost use Rattle.x696.specs.Editing.{edit as edited};
-ghost use Rattle.encoding.specs.Measures.{Writes};
+ghost use Rattle.encoding.specs.Measures.{Puts, Writes};
 
 use crate::splicing::splice;
-use encoding::lists::{Measured, survey_list};
-use finding::places::{FoundIn, find_in};
-use table::reply::{Reply, done, refusal};
+use encoding::lists::survey_list;
+use finding::places::find_in;
+use octets::faults::{Cause, Part, Refusal};
+use table::reply::{Reply, done};
+
+// The octets of the new message, put at the front of the lent buffer; or the refusal, with nothing put.
+fn put_edited(
+    rows: &[u64],
+    items: &[u64],
+    row: u64,
+    msg: &[u8],
+    path: &[u64],
+    nodes: &[u64],
+    contents: &[u8],
+    out: &mut [u8],
+) -> Result<usize, Refusal>
+    ensures { Puts (edited rows.now items.now row msg.now path.now nodes.now contents.now out.old) out.new result }
+{
+    let w = find_in(rows, items, row, msg, path)?;
+    let s = w.spot;
+    let n = survey_list(rows, items, s.row, s.mark, s.given, nodes, contents)?;
+    let many = 4096 < w.count - s.nodes + nodes.len() / 2;
+    if many {
+        return Err(Cause::Nodes.at(0).in_part(Part::Result));
+    }
+    if 65535 < n {
+        return Err(Cause::Long.at(0).in_part(Part::Result));
+    }
+    let octets = msg.len() - (s.end - s.start) + n;
+    if 65535 < octets {
+        return Err(Cause::Long.at(0).in_part(Part::Result));
+    }
+    let lacks = out.len() < octets;
+    if lacks {
+        return Err(Cause::Room.at(0).in_part(Part::Result));
+    }
+    splice(rows, items, s, nodes, contents, n, msg, out);
+    Ok(octets)
+}
 
 // Edit at a path: the message of the value with that component replaced by the listed one, at the front of the lent
 // buffer. Octets past the count stay, and every refusal leaves the buffer as lent.
@@ -25,32 +61,8 @@ pub fn edit(
 ) -> Reply
     ensures { Writes (edited rows.now items.now row msg.now path.now nodes.now contents.now out.old) out.new result }
 {
-    match find_in(rows, items, row, msg, path) {
-        FoundIn::Refused(r) => r,
-        FoundIn::Found(w) => {
-            let s = w.spot;
-            match survey_list(rows, items, s.row, s.mark, s.given, nodes, contents) {
-                Measured::Refused(r) => r,
-                Measured::Got(n) => {
-                    let many = 4096 < w.count - s.nodes + nodes.len() / 2;
-                    if many {
-                        return refusal(10, 4, 0);
-                    }
-                    if 65535 < n {
-                        return refusal(4, 4, 0);
-                    }
-                    let octets = msg.len() - (s.end - s.start) + n;
-                    if 65535 < octets {
-                        return refusal(4, 4, 0);
-                    }
-                    let lacks = out.len() < octets;
-                    if lacks {
-                        return refusal(12, 4, 0);
-                    }
-                    splice(rows, items, s, nodes, contents, n, msg, out);
-                    done(0, octets as u64)
-                }
-            }
-        }
+    match put_edited(rows, items, row, msg, path, nodes, contents, out) {
+        Ok(octets) => done(0, octets as u64),
+        Err(refusal) => Reply::from(refusal),
     }
 }

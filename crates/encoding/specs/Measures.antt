@@ -7,7 +7,9 @@ use Rattle.x696.specs.Value.{Val, node_width}
 use Rattle.x696.specs.Types.{Ty}
 use Rattle.x696.specs.Encode.{encode, own_octets}
 use Rattle.x696.specs.Walk.{Listed, list_at, walk_component}
-use Rattle.x696.specs.Reply.{done, in_part}
+use Rattle.x696.specs.Reply.{Reply as Meant, done, refusal_reply, done_reply, in_part}
+use Rattle.octets.specs.Cause.{code_of}
+use Rattle.octets.specs.Part.{part_of}
 use Rattle.x696.specs.Table.{row_width, type_of}
 use Rattle.x696.specs.TableFault.{sound, table_fault}
 use Rattle.x696.specs.Operations.{node_limit, octet_limit, walk_list, octets_for, Written}
@@ -44,4 +46,13 @@ pub record OctetsAnswer (rows items : List ℕ) (row : ℕ) (ws cs : List ℕ) (
 -- an operation with a result: the reply, and what the lent buffer then holds
 pub record Writes (w : Written) (out : List ℕ) (r : Reply) : Type 0 where
   pub reply : r ≡ as_reply w.reply
+  pub stored : out ≡ w.out
+
+-- the same, told as the octets that were put or the refusal
+abbrev pub reply_to : Result ℕ Refusal → Meant
+reply_to (Ok n) = done_reply 0 n
+reply_to (Err x) = refusal_reply (code_of x.cause) (part_of x.part) x.place
+
+pub record Puts (w : Written) (out : List ℕ) (r : Result ℕ Refusal) : Type 0 where
+  pub reply : reply_to r ≡ w.reply
   pub stored : out ≡ w.out
