@@ -2,7 +2,6 @@
 // (bench/leaves). Nothing else uses them; their contracts say what the last leaf's answer adds up to only in that they return.
 #![tactic(auto)]
 
-use octets::answers::{ReadNumber, ReadRun, ReadTag};
 use octets::lengths::{put_length, read_run};
 use octets::tags::{put_tag, read_tag};
 use octets::units::Octets;
@@ -16,10 +15,10 @@ pub extern "C" fn leaf_read_lengths(msg: &[u8], rounds: u64) -> u64 {
     let mut i = 0;
     while i < rounds {
         match read_run(msg, at, at) {
-            ReadRun::Refused(f) => {
-                return f.number;
+            Err(f) => {
+                return f.cause.number();
             }
-            ReadRun::Got(p) => {
+            Ok(p) => {
                 let length = p.length;
                 sum = std::num::wrapping_add_u64(sum, length.0);
                 at = p.start + length.0 as usize;
@@ -38,10 +37,10 @@ pub extern "C" fn leaf_read_numbers(msg: &[u8], rounds: u64) -> u64 {
     let mut i = 0;
     while i < rounds {
         match read_unsigned(msg, at, at) {
-            ReadNumber::Refused(f) => {
-                return f.number;
+            Err(f) => {
+                return f.cause.number();
             }
-            ReadNumber::Got(n) => {
+            Ok(n) => {
                 sum = std::num::wrapping_add_u64(sum, n.value);
                 at = n.next;
             }
@@ -59,10 +58,10 @@ pub extern "C" fn leaf_read_tags(msg: &[u8], rounds: u64) -> u64 {
     let mut i = 0;
     while i < rounds {
         match read_tag(msg, at, at) {
-            ReadTag::Refused(f) => {
-                return f.number;
+            Err(f) => {
+                return f.cause.number();
             }
-            ReadTag::Got(g) => {
+            Ok(g) => {
                 sum = std::num::wrapping_add_u64(sum, g.number);
                 at = g.next;
             }

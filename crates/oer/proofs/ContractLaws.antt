@@ -14,6 +14,13 @@ use Rattle.table.specs.Replies.{as_reply}
 use Rattle.table.specs.declared.reply.Reply.{Reply}
 use Rattle.showing.specs.declared.settings.Setting.{Setting}
 use Rattle.showing.specs.Settings.{setting_as, answer_as}
+use Rattle.std.proofs.Common.{Result, Ok, Err}
+use Rattle.octets.specs.declared.faults.Refusal.{Refusal}
+use Rattle.showing.specs.Settings.{told}
+use Rattle.std.proofs.Common.{arith}
+use Rattle.octets.proofs.Refusing.{one_cause, one_part}
+use Rattle.octets.specs.Part.{refused}
+use mathlib.Core.Path.{ap}
 use Rattle.oer.specs.Promises.{Checks, Validates, Decodes, Measures, Writes, Encodes, Edits, Reads, Shows}
 
 -- ---- by cases, both ways
@@ -120,19 +127,38 @@ unfolding edit
 edit_iff rows items row msg path ws cs out out' r = writes_iff _ out out' r
 
 -- ---- settings and texts: nothing lent
-setting_cases : (r : Setting) (a : Answer Meant) → ((n q p : ℕ) → a ≡ refusal n q p → r ≡ answer_as (refusal n q p))
-    → ((s : Meant) → a ≡ done s → r ≡ setting_as s)
-    → r ≡ answer_as a
-unfolding answer_as
+setting_cases : (r : Result Setting Refusal) (a : Answer Meant)
+    → ((n q p : ℕ) → a ≡ refusal n q p → told r ≡ refusal n q p)
+    → ((s : Meant) → a ≡ done s → r ≡ Ok (setting_as s))
+    → told r ≡ answer_as a
+unfolding answer_as told
 setting_cases r (refusal n q p) refuses hands = refuses n q p refl
-setting_cases r (done s) refuses hands = hands s refl
+setting_cases r (done s) refuses hands = rw (hands s refl)
 
-pub setting_iff : (rows items : List ℕ) (row : ℕ) (msg path : List ℕ) (r : Setting)
-    → Reads rows items row msg path r ↔ (r ≡ answer_as (read_setting rows items row msg path))
+-- what is told names the setting
+told_done : (r : Result Setting Refusal) {s : Setting} → told r ≡ done s → r ≡ Ok s
+unfolding told
+told_done (Ok t) e = cc
+told_done (Err x) e = let z : ◌≡◌ {A = ℕ} 0 1 = cc in absurd (omega arith)
+
+told_one : (r r' : Result Setting Refusal) → told r ≡ told r' → r ≡ r'
+unfolding told
+told_one (Ok s) (Ok t) e = cc
+told_one (Ok s) (Err y) e = let z : ◌≡◌ {A = ℕ} 0 1 = cc in absurd (omega arith)
+told_one (Err x) (Ok t) e = let z : ◌≡◌ {A = ℕ} 0 1 = cc in absurd (omega arith)
+told_one (Err x) (Err y) e =
+    let cause : x.cause ≡ y.cause = one_cause x.cause y.cause cc in
+    let part : x.part ≡ y.part = one_part x.part y.part cc in
+    let place : x.place ≡ y.place = cc in
+    let same : refused x.cause x.part x.place ≡ refused y.cause y.part y.place = rw (cause, part, place) refl in
+    ap Err same
+
+pub setting_iff : (rows items : List ℕ) (row : ℕ) (msg path : List ℕ) (r : Result Setting Refusal)
+    → Reads rows items row msg path r ↔ (told r ≡ answer_as (read_setting rows items row msg path))
 unfolding answer_as
 setting_iff rows items row msg path r = (
   (λ c. setting_cases r _ c.refuses c.hands),
-  λ is. record { refuses = λ n q p e. rw e at is; hands = λ s e. rw e at is },
+  λ is. record { refuses = λ n q p e. rw e at is; hands = λ s e. told_done r (rw e at is) },
 )
 
 shown_cases : (msg instead shown : List ℕ) (a : Shown)
@@ -194,9 +220,10 @@ module _ (rows items : List ℕ) (row : ℕ) where
       written_one ((edit_iff rows items row msg path ws cs out _ _).0 c)
       ((edit_iff rows items row msg path ws cs out _ _).0 c')
 
-  pub setting_one : (msg path : List ℕ) {r r' : Setting} → Reads rows items row msg path r
+  pub setting_one : (msg path : List ℕ) {r r' : Result Setting Refusal} → Reads rows items row msg path r
       → Reads rows items row msg path r' → r ≡ r'
-  setting_one msg path c c' = both ((setting_iff rows items row msg path _).0 c) ((setting_iff rows items row msg path _).0 c')
+  setting_one msg path {r} {r'} c c' =
+      told_one r r' (both ((setting_iff rows items row msg path r).0 c) ((setting_iff rows items row msg path r').0 c'))
 
   pub text_one : (msg path instead : List ℕ) {shown shown' : List ℕ} → Shows rows items row msg path instead shown
       → Shows rows items row msg path instead shown' → shown ≡ shown'

@@ -5,6 +5,8 @@ use Rattle.std.specs.Prelude.{◌≡◌, List, ℕ}
 use Rattle.table.specs.declared.reply.Reply.{Reply}
 use Rattle.showing.specs.declared.settings.Setting.{Setting}
 use Rattle.oer.specs.Promises.{Checks, Validates, Decodes, Measures, Encodes, Edits, Reads, Shows}
+use Rattle.std.proofs.Common.{Result}
+use Rattle.octets.specs.declared.faults.Refusal.{Refusal}
 use Rattle.oer.proofs.ContractLaws as laws
 
 module _ (rows items : List ℕ) where
@@ -35,7 +37,7 @@ module _ (rows items : List ℕ) (row : ℕ) where
       → (r ≡ r') × (out₁ ≡ out₂)
   edit_determined msg path ws cs out c c' = laws.edit_one rows items row msg path ws cs out c c'
 
-  pub setting_determined : (msg path : List ℕ) {r r' : Setting} → Reads rows items row msg path r
+  pub setting_determined : (msg path : List ℕ) {r r' : Result Setting Refusal} → Reads rows items row msg path r
       → Reads rows items row msg path r' → r ≡ r'
   setting_determined msg path c c' = laws.setting_one rows items row msg path c c'
 

@@ -12,7 +12,9 @@ use Rattle.x696.specs.Editing.{edited_octets, read_setting, show_text}
 use Rattle.table.specs.Replies.{as_reply}
 use Rattle.table.specs.declared.reply.Reply.{Reply}
 use Rattle.showing.specs.declared.settings.Setting.{Setting}
-use Rattle.showing.specs.Settings.{setting_as, answer_as}
+use Rattle.std.specs.Prelude.{Result, Ok}
+use Rattle.octets.specs.declared.faults.Refusal.{Refusal}
+use Rattle.showing.specs.Settings.{setting_as, told}
 
 -- check a table: 1 TABLE SIZE, 2 TABLE ROW at the first row that breaks a rule, or DONE
 pub record Checks (rows items : List ℕ) (r : Reply) : Type 0 where
@@ -54,9 +56,9 @@ Edits rows items row msg path ws cs out out' r =
     Writes (then (edited_octets rows items row msg path ws cs) λ os. room_for os out) out out' r
 
 -- read a single setting: the refusal's three numbers, or the setting as document 01 numbers and values its cases
-pub record Reads (rows items : List ℕ) (row : ℕ) (msg path : List ℕ) (r : Setting) : Type 0 where
-  pub refuses : (n q p : ℕ) → read_setting rows items row msg path ≡ refusal n q p → r ≡ answer_as (refusal n q p)
-  pub hands : (s : Meant) → read_setting rows items row msg path ≡ done s → r ≡ setting_as s
+pub record Reads (rows items : List ℕ) (row : ℕ) (msg path : List ℕ) (r : Result Setting Refusal) : Type 0 where
+  pub refuses : (n q p : ℕ) → read_setting rows items row msg path ≡ refusal n q p → told r ≡ refusal n q p
+  pub hands : (s : Meant) → read_setting rows items row msg path ≡ done s → r ≡ Ok (setting_as s)
 
 -- show a text: the part of the message that holds the string's octets, or the caller's whole fallback
 pub record Shows (rows items : List ℕ) (row : ℕ) (msg path instead shown : List ℕ) : Type 0 where

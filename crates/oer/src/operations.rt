@@ -5,6 +5,7 @@ ghost use Rattle.oer.specs.Promises.{Checks, Validates, Decodes, Measures, Encod
 use decoding::operations::{decode as decode_message, validate as validate_message};
 use editing::operations::edit as edit_message;
 use encoding::operations::{encode as encode_list, measure as measure_list};
+use octets::faults::Refusal;
 use showing::settings::{Setting, read_setting as setting_at};
 use showing::texts::show_text as text_at;
 use table::check::check as check_table;
@@ -86,7 +87,13 @@ pub fn edit(
 
 // Read the setting at a path, with the refusals of an edit up to PATH.
 // Ruled out, for instance: the setting of another component, and a DEFAULT one that is read as absent.
-pub fn read_setting(rows: &[u64], items: &[u64], row: u64, msg: &[u8], path: &[u64]) -> Setting
+pub fn read_setting(
+    rows: &[u64],
+    items: &[u64],
+    row: u64,
+    msg: &[u8],
+    path: &[u64],
+) -> Result<Setting, Refusal>
     ensures { Reads rows.now items.now row msg.now path.now result }
 {
     setting_at(rows, items, row, msg, path)

@@ -5,13 +5,13 @@
 ghost use Rattle.std.specs.Prelude.{◌≡◌};
 ghost use Rattle.x696.specs.Editing.{read_setting, show_text};
 ghost use Rattle.showing.specs.Settings.{answer_as};
-ghost use Rattle.showing.specs.Flat.{flat_of};
+ghost use Rattle.showing.specs.Flat.{flat_answer};
 ghost use Rattle.oer.specs.Promises.{Checks, Validates, Decodes, Measures, Encodes, Edits};
 ghost use Rattle.oer_c.specs.TextParts.{part_as};
 
 use oer::operations::{check, decode, edit, encode, measure, read_setting, validate};
-use showing::flat::{FlatSetting, flatten};
-use showing::texts::{Text, find_text};
+use showing::flat::FlatSetting;
+use showing::texts::find_text;
 use table::reply::Reply;
 
 // Where a shown text stands in the message: found 1, its first octet and its length; or found 0, for the caller's fallback.
@@ -103,9 +103,9 @@ pub extern "C" fn oer_read_setting(
     msg: &[u8],
     path: &[u64],
 ) -> FlatSetting
-    ensures { result ≡ flat_of (answer_as (read_setting rows.now items.now row msg.now path.now)) }
+    ensures { result ≡ flat_answer (answer_as (read_setting rows.now items.now row msg.now path.now)) }
 {
-    flatten(read_setting(rows, items, row, msg, path))
+    FlatSetting::from(read_setting(rows, items, row, msg, path))
 }
 
 // The string at a path as the part of the message that holds its octets.
@@ -120,12 +120,12 @@ pub extern "C" fn oer_read_text(
     ensures { result ≡ part_as (show_text rows.now items.now row msg.now path.now) }
 {
     match find_text(rows, items, row, msg, path) {
-        Text::Nothing => TextPart {
+        None => TextPart {
             found: 0,
             start: 0,
             length: 0,
         },
-        Text::Shown(p) => TextPart {
+        Some(p) => TextPart {
             found: 1,
             start: p.start as u64,
             length: (p.end - p.start) as u64,

@@ -5,7 +5,7 @@ use crate::print::print_octets;
 use cases::numbers::{list_at, number_at, octets_at};
 use cases::show::show_next;
 use oer::operations::{read_setting, show_text};
-use showing::flat::{FlatSetting, flatten};
+use showing::flat::FlatSetting;
 use std::io;
 use std::io::Write;
 
@@ -26,7 +26,7 @@ fn print_setting<'a, W: Write>(
     path: &[u64],
     fallback: &'a [u8],
 ) -> io::Result<()> {
-    show_setting(to, flatten(read_setting(rows, items, row, msg, path)))?;
+    show_setting(to, FlatSetting::from(read_setting(rows, items, row, msg, path)))?;
     print_octets(to, show_text(rows, items, row, msg, path, fallback))
 }
 
