@@ -17,7 +17,7 @@ use Rattle.x696.proofs.TableLaws.{type_of_row}
 use Rattle.x696.proofs.TableRows.{kind_known}
 use Rattle.kinds.proofs.ByKind.{integer_type, octets_type}
 use Rattle.pens.specs.Flat.{Numbered, RowNumbered, Headed, RowHeaded, text_leaf}
-use Rattle.std.proofs.Common.{Result, Ok, Err}
+use Rattle.std.proofs.Common.{Result}
 use Rattle.pens.specs.declared.head.Head.{Head}
 use Rattle.octets.specs.declared.faults.Cause.{Cause}
 

@@ -19,7 +19,7 @@ use Rattle.x696.specs.Value.{node, no_values}
 use Rattle.x696.specs.Leaf.{Leaf, boolean, null, integer, enumerated, real, real_kind, leaf_kind, encode_leaf}
 use Rattle.x696.specs.Walk.{Listed, walk_leaf}
 use Rattle.pens.specs.Flat.{Stored, Numbered}
-use Rattle.std.proofs.Common.{Result, Ok, Err}
+use Rattle.std.proofs.Common.{Ok, Err}
 use Rattle.octets.specs.declared.faults.Cause.{Cause}
 use Rattle.octets.specs.declared.faults.Cause.TheVariants.{BadList, NotAllowed}
 use Rattle.octets.specs.Cause.{code_of}

@@ -19,7 +19,7 @@ use Rattle.x696.specs.Walk.{Listed, list_at, contents_at, walk_leaf}
 use Rattle.octets.proofs.CountedRuns.{length_run}
 use Rattle.octets.proofs.Stores.{sets_after}
 use Rattle.pens.specs.Flat.{Stored, Headed, text_leaf, text_head, bits_head}
-use Rattle.std.proofs.Common.{Result, Ok, Err}
+use Rattle.std.proofs.Common.{Ok, Err}
 use Rattle.octets.specs.declared.faults.Cause.{Cause}
 use Rattle.octets.specs.declared.faults.Cause.TheVariants.{BadList, NotAllowed}
 use Rattle.octets.specs.Cause.{code_of}
