@@ -13,8 +13,7 @@ use octets::variable::{put_unsigned, read_unsigned};
 pub extern "C" fn leaf_read_lengths(msg: &[u8], rounds: u64) -> u64 {
     let mut at = 0;
     let mut sum = 0;
-    let mut i = 0;
-    while i < rounds {
+    for _ in 0..rounds {
         match read_run(msg, at, at) {
             ReadRun::Refused(f) => {
                 return f.number;
@@ -25,7 +24,6 @@ pub extern "C" fn leaf_read_lengths(msg: &[u8], rounds: u64) -> u64 {
                 at = p.start + length.0 as usize;
             }
         }
-        i += 1;
     }
     sum
 }
@@ -35,8 +33,7 @@ pub extern "C" fn leaf_read_lengths(msg: &[u8], rounds: u64) -> u64 {
 pub extern "C" fn leaf_read_numbers(msg: &[u8], rounds: u64) -> u64 {
     let mut at = 0;
     let mut sum = 0;
-    let mut i = 0;
-    while i < rounds {
+    for _ in 0..rounds {
         match read_unsigned(msg, at, at) {
             ReadNumber::Refused(f) => {
                 return f.number;
@@ -46,7 +43,6 @@ pub extern "C" fn leaf_read_numbers(msg: &[u8], rounds: u64) -> u64 {
                 at = n.next;
             }
         }
-        i += 1;
     }
     sum
 }
@@ -56,8 +52,7 @@ pub extern "C" fn leaf_read_numbers(msg: &[u8], rounds: u64) -> u64 {
 pub extern "C" fn leaf_read_tags(msg: &[u8], rounds: u64) -> u64 {
     let mut at = 0;
     let mut sum = 0;
-    let mut i = 0;
-    while i < rounds {
+    for _ in 0..rounds {
         match read_tag(msg, at, at) {
             ReadTag::Refused(f) => {
                 return f.number;
@@ -67,7 +62,6 @@ pub extern "C" fn leaf_read_tags(msg: &[u8], rounds: u64) -> u64 {
                 at = g.next;
             }
         }
-        i += 1;
     }
     sum
 }
@@ -76,13 +70,11 @@ pub extern "C" fn leaf_read_tags(msg: &[u8], rounds: u64) -> u64 {
 #[unsafe(no_mangle)]
 pub extern "C" fn leaf_put_lengths(out: &mut [u8], words: &[u64]) -> u64 {
     let mut to = 0;
-    let mut i = 0;
-    while i < words.len() {
+    for word in words {
         if 1000000 < to {
             return 0;
         }
-        to = put_length(out, to, Octets(words[i]));
-        i += 1;
+        to = put_length(out, to, Octets(*word));
     }
     to as u64
 }
@@ -91,13 +83,11 @@ pub extern "C" fn leaf_put_lengths(out: &mut [u8], words: &[u64]) -> u64 {
 #[unsafe(no_mangle)]
 pub extern "C" fn leaf_put_numbers(out: &mut [u8], words: &[u64]) -> u64 {
     let mut to = 0;
-    let mut i = 0;
-    while i < words.len() {
+    for word in words {
         if 1000000 < to {
             return 0;
         }
-        to = put_unsigned(out, to, words[i]);
-        i += 1;
+        to = put_unsigned(out, to, *word);
     }
     to as u64
 }
@@ -106,13 +96,11 @@ pub extern "C" fn leaf_put_numbers(out: &mut [u8], words: &[u64]) -> u64 {
 #[unsafe(no_mangle)]
 pub extern "C" fn leaf_put_tags(out: &mut [u8], words: &[u64]) -> u64 {
     let mut to = 0;
-    let mut i = 0;
-    while i < words.len() {
+    for word in words {
         if 1000000 < to {
             return 0;
         }
-        to = put_tag(out, to, 2, words[i] % 2097152);
-        i += 1;
+        to = put_tag(out, to, 2, *word % 2097152);
     }
     to as u64
 }
