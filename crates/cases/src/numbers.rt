@@ -11,7 +11,7 @@ pub struct Numbers<'a> {
 }
 
 impl Numbers<'_> {
-    // The next number: 0 at the end of the text, and of a number that is too long, which ends there.
+    // The next number, modulo 2^64: 0 at the end of the text, and where a number goes on behind one above TENTH, and ends there.
     pub fn number(&mut self) -> u64
         ensures { length self.new.left.now ≤ length self.old.left.now - 1 }
     {

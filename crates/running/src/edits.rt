@@ -9,6 +9,7 @@ use std::io::Write;
 
 // Reads the case, and lends the asked part of the buffer, if it has so much.
 pub fn run_edit<W: Write>(to: &mut W, table: Table<'_>, mut case: Numbers<'_>) -> io::Result<()> {
+    let Table { rows, items } = table;
     let mut msg = [0u8; 66000];
     let mut path = [0u64; 32];
     let mut nodes = [0u64; 9000];
@@ -23,16 +24,7 @@ pub fn run_edit<W: Write>(to: &mut W, table: Table<'_>, mut case: Numbers<'_>) -
     let Some(out) = out.get_mut(..room) else {
         return Ok(());
     };
-    let reply = edit(
-        table.rows,
-        table.items,
-        row,
-        msg,
-        path,
-        nodes,
-        contents,
-        out,
-    );
+    let reply = edit(rows, items, row, msg, path, nodes, contents, out);
     write!(to, "{reply}")?;
     print_octets(to, out)
 }
