@@ -9,7 +9,8 @@ pub fn megabyte() -> [u8; 1048576] {
     [0u8; 1048576]
 }
 
-// Fills the buffer from its beginning as far as there is input: the part that is filled.
+// Fills the buffer from its beginning as far as there is input: the part that is filled. A loop of its own, since the library's
+// `read_to_end` asks for memory, and the programs of the gate ask for none.
 pub fn read_full<'b, R: Read>(from: &mut R, buf: &'b mut [u8]) -> io::Result<&'b [u8]>
     ensures { IfOk result (λ filled. length filled.now ≤ length buf.old) }
 {

@@ -16,6 +16,7 @@ impl Numbers<'_> {
         ensures { length self.new.left.now ≤ length self.old.left.now - 1 }
     {
         let mut value = 0;
+        // No `for`: the octet that the number ends behind is taken, too, and the next number begins where this one stops.
         while let Some(octet) = self.left.split_off_first() {
             let digit = match *octet {
                 b'0'..=b'9' => u64::from(*octet - b'0'),

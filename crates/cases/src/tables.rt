@@ -3,6 +3,11 @@ ghost use Rattle.std.specs.Prelude.{◌≤◌, length};
 
 use crate::numbers::Numbers;
 
+// How many words of rows and of items a case file's tables have at most (docs/FORMATS.md).
+pub const MOST_ROW_WORDS: usize = 1600;
+
+pub const MOST_ITEM_WORDS: usize = 3200;
+
 // The words of its rows, and those of its items.
 #[derive(Clone, Copy)]
 pub struct Table<'a> {

@@ -6,15 +6,15 @@
 use cases::input::{megabyte, read_full};
 use cases::lines::{Line, Lines};
 use cases::numbers::Numbers;
-use cases::tables::Table;
+use cases::tables::{MOST_ITEM_WORDS, MOST_ROW_WORDS, Table};
 use std::io;
 use std::io::Write;
 use table::check::check;
 
 // The table whose line this is.
 fn check_line<W: Write>(to: &mut W, line: Line<'_>) -> io::Result<()> {
-    let mut rows = [0u64; 1600];
-    let mut items = [0u64; 3200];
+    let mut rows = [0u64; MOST_ROW_WORDS];
+    let mut items = [0u64; MOST_ITEM_WORDS];
     let table = Table::read(Numbers { left: line.text }, &mut rows, &mut items);
     writeln!(to, "{}", check(table.rows, table.items))
 }

@@ -1,6 +1,7 @@
 // Letter e: edit. Its numbers: the row, the size of the buffer to lend, the message, the path, and the new value's
 // nodes and contents.
 use crate::print::print_octets;
+use crate::{MOST_NODE_WORDS, MOST_OCTETS, MOST_STEPS};
 use cases::numbers::Numbers;
 use cases::tables::Table;
 use oer::operations::edit;
@@ -10,11 +11,11 @@ use std::io::Write;
 // Reads the case, and lends the asked part of the buffer, if it has so much.
 pub fn run_edit<W: Write>(to: &mut W, table: Table<'_>, mut case: Numbers<'_>) -> io::Result<()> {
     let Table { rows, items } = table;
-    let mut msg = [0u8; 66000];
-    let mut path = [0u64; 32];
-    let mut nodes = [0u64; 9000];
-    let mut contents = [0u8; 66000];
-    let mut out = [7u8; 66000];
+    let mut msg = [0u8; MOST_OCTETS];
+    let mut path = [0u64; MOST_STEPS];
+    let mut nodes = [0u64; MOST_NODE_WORDS];
+    let mut contents = [0u8; MOST_OCTETS];
+    let mut out = [7u8; MOST_OCTETS];
     let row = case.number();
     let room = case.number() as usize;
     let msg = case.octets(&mut msg);

@@ -1,5 +1,6 @@
 // Letter m: validate, and decode. Its numbers: the row, the sizes of the two buffers to lend, the message.
 use crate::print::print_octets;
+use crate::{MOST_NODE_WORDS, MOST_OCTETS};
 use cases::numbers::Numbers;
 use cases::show::show_list;
 use cases::tables::Table;
@@ -14,9 +15,9 @@ pub fn run_message<W: Write>(
     mut case: Numbers<'_>,
 ) -> io::Result<()> {
     let Table { rows, items } = table;
-    let mut msg = [0u8; 66000];
-    let mut nodes = [7u64; 9000];
-    let mut contents = [7u8; 66000];
+    let mut msg = [0u8; MOST_OCTETS];
+    let mut nodes = [7u64; MOST_NODE_WORDS];
+    let mut contents = [7u8; MOST_OCTETS];
     let row = case.number();
     let words = case.number() as usize;
     let octets = case.number() as usize;

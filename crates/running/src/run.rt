@@ -6,7 +6,7 @@ use crate::settings::run_setting;
 use cases::input::{megabyte, read_full};
 use cases::lines::Lines;
 use cases::numbers::Numbers;
-use cases::tables::Table;
+use cases::tables::{MOST_ITEM_WORDS, MOST_ROW_WORDS, Table};
 use oer::operations::check;
 use std::io;
 use std::io::Write;
@@ -18,8 +18,8 @@ fn run_case<W: Write>(
     table: Numbers<'_>,
     case: Numbers<'_>,
 ) -> io::Result<()> {
-    let mut rows = [0u64; 1600];
-    let mut items = [0u64; 3200];
+    let mut rows = [0u64; MOST_ROW_WORDS];
+    let mut items = [0u64; MOST_ITEM_WORDS];
     let table = Table::read(table, &mut rows, &mut items);
     match letter {
         b'c' => writeln!(to, "{}", check(table.rows, table.items)),

@@ -1,5 +1,6 @@
 // Letter s: read a setting, and show a text. Its numbers: the row, the message, the path, the fallback.
 use crate::print::print_octets;
+use crate::{MOST_FALLBACK, MOST_OCTETS, MOST_STEPS};
 use cases::numbers::Numbers;
 use cases::tables::Table;
 use oer::operations::{read_setting, show_text};
@@ -13,9 +14,9 @@ pub fn run_setting<W: Write>(
     mut case: Numbers<'_>,
 ) -> io::Result<()> {
     let Table { rows, items } = table;
-    let mut msg = [0u8; 66000];
-    let mut path = [0u64; 32];
-    let mut fallback = [0u8; 32];
+    let mut msg = [0u8; MOST_OCTETS];
+    let mut path = [0u64; MOST_STEPS];
+    let mut fallback = [0u8; MOST_FALLBACK];
     let row = case.number();
     let msg = case.octets(&mut msg);
     let path = case.words(&mut path);
