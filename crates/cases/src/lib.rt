@@ -1,4 +1,4 @@
-// What the programs of the gate share: their input, the lines and numbers of a case file, its tables, and lists in print.
+// What the programs of the gate share: their input, the lines and numbers of a case file, its tables, lists in print.
 #![tactic(auto)]
 
 pub mod input;

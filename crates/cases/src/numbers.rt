@@ -11,12 +11,13 @@ pub struct Numbers<'a> {
 }
 
 impl Numbers<'_> {
-    // The next number, modulo 2^64: 0 at the end of the text, and where a number goes on behind one above TENTH, and ends there.
+    // The next number, modulo 2^64: 0 at the end of the text, and where a number above TENTH has one more digit, behind
+    // which it ends.
     pub fn number(&mut self) -> u64
         ensures { length self.new.left.now ≤ length self.old.left.now - 1 }
     {
         let mut value = 0;
-        // No `for`: the octet that the number ends behind is taken, too, and the next number begins where this one stops.
+        // No `for`: the cursor moves with each octet, and the next number begins where this one stops.
         while let Some(octet) = self.left.split_off_first() {
             let digit = match *octet {
                 b'0'..=b'9' => u64::from(*octet - b'0'),
@@ -30,7 +31,8 @@ impl Numbers<'_> {
         value
     }
 
-    // A list, which begins with how many numbers there are, put into the slice as far as it goes: the part that it fills.
+    // A list, which begins with how many numbers there are, put into the slice as far as it goes: the part that it
+    // fills.
     fn list<'b, T: Copy, F: Fn(u64) -> T>(&mut self, out: &'b mut [T], of: F) -> &'b [T]
         requires { F.IsAlwaysCallable of }
         ensures { length result.now ≤ length out.old }
