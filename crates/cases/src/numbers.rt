@@ -1,99 +1,61 @@
-// Decimal numbers and lines of a text. A number ends behind one octet that is no digit.
-ghost use Rattle.std.specs.Prelude.{◌<◌, ◌≤◌, length};
+// Decimal numbers of a text, one after another. A number ends behind one octet that is no digit.
+ghost use Rattle.std.specs.Prelude.{◌≤◌, ◌-◌, length};
 
-// A number of the text, and where the next one begins.
+// The largest number that one more digit can follow.
+const TENTH: u64 = u64::MAX / 10;
+
+// A place in a text: the octets that are left to read.
 #[derive(Clone, Copy)]
-pub struct Read {
-    pub value: u64,
-    pub next: usize,
+pub struct Numbers<'a> {
+    pub left: &'a [u8],
 }
 
-fn digit_of(o: u8) -> u64
-    ensures { result ≤ 10 }
-{
-    if o < 48 {
-        return 10;
-    }
-    if 57 < o {
-        return 10;
-    }
-    (o - 48) as u64
-}
-
-// The decimal number at `at`, and where the next one begins: behind one octet that is no digit.
-pub fn number_at(s: &[u8], at: usize) -> Read
-    requires { at ≤ length s.now }
-    ensures { result.next ≤ length s.now }
-{
-    let mut value = 0;
-    let mut i = at;
-    while i < s.len() {
-        let d = digit_of(s[i]);
-        i += 1;
-        if d == 10 {
-            return Read { value, next: i };
+impl Numbers<'_> {
+    // The next number, modulo 2^64: 0 at the end of the text, and where a number above TENTH has one more digit, behind
+    // which it ends.
+    pub fn number(&mut self) -> u64
+        ensures { length self.new.left.now ≤ length self.old.left.now - 1 }
+    {
+        let mut value = 0;
+        // No `for`: the cursor moves with each octet, and the next number begins where this one stops.
+        while let Some(octet) = self.left.split_off_first() {
+            let digit = match *octet {
+                b'0'..=b'9' => u64::from(*octet - b'0'),
+                _ => return value,
+            };
+            if TENTH < value {
+                return 0;
+            }
+            value = (value * 10).wrapping_add(digit);
         }
-        if 1844674407370955161 < value {
-            return Read { value: 0, next: i };
+        value
+    }
+
+    // A list, which begins with how many numbers there are, put into the slice as far as it goes: the part that it
+    // fills.
+    fn list<'b, T: Copy, F: Fn(u64) -> T>(&mut self, out: &'b mut [T], of: F) -> &'b [T]
+        requires { F.IsAlwaysCallable of }
+        ensures { length result.now ≤ length out.old }
+    {
+        let n = self.number().min(out.len() as u64) as usize;
+        let filled = &mut out[..n];
+        for place in filled.iter_mut() {
+            *place = of(self.number());
         }
-        value = std::num::wrapping_add_u64(value * 10, d);
+        filled
     }
-    Read { value, next: i }
-}
 
-fn least(a: u64, b: u64) -> u64
-    ensures { result ≤ b }
-{
-    if a <= b { a } else { b }
-}
-
-// Stores the numbers of a list, which begins with how many there are: where the next list begins.
-pub fn list_at(s: &[u8], at: usize, out: &mut [u64]) -> Read
-    requires { at ≤ length s.now }
-    ensures { (result.next ≤ length s.now) × (result.value ≤ length out.old) }
-{
-    let count = number_at(s, at);
-    let n = least(count.value, out.len() as u64);
-    let mut next = count.next;
-    let mut i = 0;
-    while i < n {
-        let x = number_at(s, next);
-        out[i as usize] = x.value;
-        next = x.next;
-        i += 1;
+    // A list of words.
+    pub fn words<'b>(&mut self, out: &'b mut [u64]) -> &'b [u64]
+        ensures { length result.now ≤ length out.old }
+    {
+        self.list(out, |x| x)
     }
-    Read { value: n, next }
-}
 
-// The same for octets; a number above 255 counts as 255.
-pub fn octets_at(s: &[u8], at: usize, out: &mut [u8]) -> Read
-    requires { at ≤ length s.now }
-    ensures { (result.next ≤ length s.now) × (result.value ≤ length out.old) }
-{
-    let count = number_at(s, at);
-    let n = least(count.value, out.len() as u64);
-    let mut next = count.next;
-    let mut i = 0;
-    while i < n {
-        let x = number_at(s, next);
-        out[i as usize] = least(x.value, 255) as u8;
-        next = x.next;
-        i += 1;
+    // A list of octets; a number above 255 counts as 255.
+    pub fn octets<'b>(&mut self, out: &'b mut [u8]) -> &'b [u8]
+        ensures { length result.now ≤ length out.old }
+    {
+        self.list(out, |x| u8::try_from(x).unwrap_or(255))
     }
-    Read { value: n, next }
-}
-
-// Where the line that begins at `at` ends: behind its line feed.
-pub fn line_end(s: &[u8], at: usize) -> usize
-    requires { at < length s.now }
-    ensures { (result ≤ length s.now) × (at < result) }
-{
-    let mut i = at;
-    while i < s.len() {
-        if s[i] == b'\n' {
-            return i + 1;
-        }
-        i += 1;
-    }
-    i
 }

@@ -2,6 +2,8 @@
 // (bench/leaves). Nothing else uses them; their contracts say what the last leaf's answer adds up to only in that they return.
 #![tactic(auto)]
 
+ghost use Rattle.std.specs.Prelude.{◌≤◌, ℕ};
+
 use octets::lengths::{put_length, read_run};
 use octets::tags::{put_tag, read_tag};
 use octets::units::Octets;
@@ -12,8 +14,7 @@ use octets::variable::{put_unsigned, read_unsigned};
 pub extern "C" fn leaf_read_lengths(msg: &[u8], rounds: u64) -> u64 {
     let mut at = 0;
     let mut sum = 0;
-    let mut i = 0;
-    while i < rounds {
+    for _ in 0..rounds {
         match read_run(msg, at, at) {
             Err(f) => {
                 return f.cause.number();
@@ -24,7 +25,6 @@ pub extern "C" fn leaf_read_lengths(msg: &[u8], rounds: u64) -> u64 {
                 at = p.start + length.0 as usize;
             }
         }
-        i += 1;
     }
     sum
 }
@@ -34,8 +34,7 @@ pub extern "C" fn leaf_read_lengths(msg: &[u8], rounds: u64) -> u64 {
 pub extern "C" fn leaf_read_numbers(msg: &[u8], rounds: u64) -> u64 {
     let mut at = 0;
     let mut sum = 0;
-    let mut i = 0;
-    while i < rounds {
+    for _ in 0..rounds {
         match read_unsigned(msg, at, at) {
             Err(f) => {
                 return f.cause.number();
@@ -45,7 +44,6 @@ pub extern "C" fn leaf_read_numbers(msg: &[u8], rounds: u64) -> u64 {
                 at = n.next;
             }
         }
-        i += 1;
     }
     sum
 }
@@ -55,8 +53,7 @@ pub extern "C" fn leaf_read_numbers(msg: &[u8], rounds: u64) -> u64 {
 pub extern "C" fn leaf_read_tags(msg: &[u8], rounds: u64) -> u64 {
     let mut at = 0;
     let mut sum = 0;
-    let mut i = 0;
-    while i < rounds {
+    for _ in 0..rounds {
         match read_tag(msg, at, at) {
             Err(f) => {
                 return f.cause.number();
@@ -66,52 +63,46 @@ pub extern "C" fn leaf_read_tags(msg: &[u8], rounds: u64) -> u64 {
                 at = g.next;
             }
         }
-        i += 1;
     }
     sum
+}
+
+// Writes words one after another by `put`, which answers where the next one goes: where the last ends.
+fn put_all<F: Fn(&mut [u8], usize, u64) -> usize>(put: F, out: &mut [u8], words: &[u64]) -> u64
+    requires { (lent : _) (to word : ℕ) → to ≤ 1000000 → F.pre put lent to word }
+{
+    let mut to = 0;
+    for word in words {
+        if 1000000 < to {
+            return 0;
+        }
+        to = put(out, to, *word);
+    }
+    to as u64
 }
 
 // Writes the determinants of these lengths one after another: where the last ends.
 #[unsafe(no_mangle)]
 pub extern "C" fn leaf_put_lengths(out: &mut [u8], words: &[u64]) -> u64 {
-    let mut to = 0;
-    let mut i = 0;
-    while i < words.len() {
-        if 1000000 < to {
-            return 0;
-        }
-        to = put_length(out, to, Octets(words[i]));
-        i += 1;
-    }
-    to as u64
+    put_all(
+        |lent, to, word| put_length(lent, to, Octets(word)),
+        out,
+        words,
+    )
 }
 
 // Writes these numbers one after another, each variable-size unsigned.
 #[unsafe(no_mangle)]
 pub extern "C" fn leaf_put_numbers(out: &mut [u8], words: &[u64]) -> u64 {
-    let mut to = 0;
-    let mut i = 0;
-    while i < words.len() {
-        if 1000000 < to {
-            return 0;
-        }
-        to = put_unsigned(out, to, words[i]);
-        i += 1;
-    }
-    to as u64
+    put_all(put_unsigned, out, words)
 }
 
 // Writes the context-specific tags of these numbers one after another.
 #[unsafe(no_mangle)]
 pub extern "C" fn leaf_put_tags(out: &mut [u8], words: &[u64]) -> u64 {
-    let mut to = 0;
-    let mut i = 0;
-    while i < words.len() {
-        if 1000000 < to {
-            return 0;
-        }
-        to = put_tag(out, to, 2, words[i] % 2097152);
-        i += 1;
-    }
-    to as u64
+    put_all(
+        |lent, to, word| put_tag(lent, to, 2, word % 2097152),
+        out,
+        words,
+    )
 }

@@ -8,3 +8,12 @@ pub mod messages;
 pub mod print;
 pub mod run;
 pub mod settings;
+
+// The most that a case has of each (docs/FORMATS.md).
+const MOST_OCTETS: usize = 66000;
+
+const MOST_NODE_WORDS: usize = 9000;
+
+const MOST_STEPS: usize = 32;
+
+const MOST_FALLBACK: usize = 32;

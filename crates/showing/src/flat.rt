@@ -100,3 +100,19 @@ impl From<Result<Setting, Refusal>> for FlatSetting {
         }
     }
 }
+
+// The five numbers, parted by spaces.
+impl std::fmt::Display for FlatSetting {
+    ghost use Rattle.std.specs.Prelude.{Some, codes, decimal, ◌++◌};
+
+    ghost output = { λ r. Some (decimal r.number ++ (codes " " ++ (decimal r.part ++ (codes " " ++
+        (decimal r.place ++ (codes " " ++ (decimal r.what ++ (codes " " ++ decimal r.word)))))))) };
+
+    fn fmt<W: std::fmt::Write>(&self, f: &mut std::fmt::Formatter<W>) -> std::fmt::Result {
+        write!(
+            f,
+            "{} {} {} {} {}",
+            self.number, self.part, self.place, self.what, self.word
+        )
+    }
+}

@@ -40,3 +40,19 @@ pub fn done(nodes: u64, octets: u64) -> Reply
         octets,
     }
 }
+
+// The five numbers, parted by spaces.
+impl std::fmt::Display for Reply {
+    ghost use Rattle.std.specs.Prelude.{Some, codes, decimal, ◌++◌};
+
+    ghost output = { λ r. Some (decimal r.number ++ (codes " " ++ (decimal r.part ++ (codes " " ++
+        (decimal r.place ++ (codes " " ++ (decimal r.nodes ++ (codes " " ++ decimal r.octets)))))))) };
+
+    fn fmt<W: std::fmt::Write>(&self, f: &mut std::fmt::Formatter<W>) -> std::fmt::Result {
+        write!(
+            f,
+            "{} {} {} {} {}",
+            self.number, self.part, self.place, self.nodes, self.octets
+        )
+    }
+}
