@@ -2,7 +2,7 @@
 -- Assumes nothing.
 use mathlib.Core.Path.{◌≡◌, refl, ap, ◌∙◌}
 use mathlib.Core.Bool.{true, false}
-use mathlib.Core.List.{List}
+use mathlib.Core.List.{List, []}
 use Prim.Native.Nat.{ℕ, ◌/◌, ◌≤◌}
 use native.Mathlib.Omega.{arith}
 use lib.ListN.{length}
@@ -10,15 +10,14 @@ use borrow.Author.Tests.{leb-true}
 use Rattle.x696.specs.Outcome.{choose}
 use Rattle.x696.specs.Table.{row_width}
 use Rattle.x696.proofs.TableTests.{given_inv}
-use Rattle.x696.specs.TableFault.{TableFault as Meant, sound, bad_size, bad_row, sizes_sound, table_fault}
+use Rattle.x696.specs.TableFault.{TableFault as Meant, sound, bad_size, bad_row, sizes_sound, rows_fault, table_fault}
 use Rattle.x696.specs.Reply.{refusal_reply, done_reply}
 use Rattle.x696.specs.Operations.{check_reply, check}
-use Rattle.table.specs.declared.nestings.Judged.{Judged}
 use Rattle.table.specs.declared.check.TableFault.{TableFault}
 use Rattle.table.specs.declared.check.TableFault.TheVariants.{Sound, Size, Row}
 use Rattle.table.specs.declared.reply.Reply.{Reply}
 use Rattle.table.specs.Replies.{as_reply}
-use Rattle.table.specs.Judged.{Judges, as_fault}
+use Rattle.table.specs.Judged.{as_fault}
 
 module _ (rows items : List ℕ) where
   pub sizes_bad : sizes_sound rows items ≡ false → Size ≡ as_fault (table_fault rows items)
@@ -34,14 +33,13 @@ module _ (rows items : List ℕ) where
         given_inv _ _ t λ few _.
         (omega arith, rw isCount (leb-true _ 256 few))
 
-    module _ {ns : List ℕ} {r : Judged} (j : Judges rows items n ns r) where
-      pub row_bad : r.bad ≡ true → Row r.row ≡ as_fault (table_fault rows items)
-      unfolding table_fault as_fault choose
-      row_bad b = rw (e, ← isCount, j.refuses b)
+    pub row_bad : {row : ℕ} → rows_fault rows items 0 n [] ≡ bad_row row → Row row ≡ as_fault (table_fault rows items)
+    unfolding table_fault as_fault choose
+    row_bad b = rw (e, ← isCount, b)
 
-      pub none_bad : r.bad ≡ false → Sound ≡ as_fault (table_fault rows items)
-      unfolding table_fault as_fault choose
-      none_bad b = rw (e, ← isCount, j.takes b)
+    pub none_bad : rows_fault rows items 0 n [] ≡ sound → Sound ≡ as_fault (table_fault rows items)
+    unfolding table_fault as_fault choose
+    none_bad b = rw (e, ← isCount, b)
 
 -- the fault by its name in the code
 module _ {f : TableFault} where
