@@ -30,6 +30,7 @@ fn sizes_sound(rows: &[u64], items: &[u64]) -> bool
 }
 
 // The first fault of a table: its sizes, then its first bad row.
+#[tactic(auto, unfolding(crate::specs::Judged::as_fault, x696::specs::TableFault::table_fault, x696::specs::TableFault::sizes_sound, x696::specs::TableCheck::given, x696::specs::Outcome::choose))]
 pub fn fault_of(rows: &[u64], items: &[u64]) -> TableFault
     ensures { result ≡ as_fault (table_fault rows.now items.now) }
 {
@@ -45,6 +46,7 @@ pub fn fault_of(rows: &[u64], items: &[u64]) -> TableFault
 
 // Check a table: 1 TABLE SIZE, 2 TABLE ROW at the first row that breaks a rule, or 0. It asks nothing of its caller.
 // Ruled out, for instance: a check that refuses every table, and one that names a later bad row.
+#[tactic(auto, unfolding(crate::specs::Judged::as_fault, x696::specs::Operations::check, x696::specs::Operations::check_reply))]
 pub fn check(rows: &[u64], items: &[u64]) -> Reply
     ensures { result ≡ as_reply (checked rows.now items.now) }
 {

@@ -15,6 +15,7 @@ use crate::words::{
 };
 
 // Whether d is a DEFAULT of row k: kinds 1, 2 and 3 (an allowed value) and 11 (0, the empty list).
+#[tactic(auto, using(x696::proofs::TableLaws::type_of_row), unfolding(x696::specs::TableCheck::default_sound, x696::specs::Table::type_by, x696::specs::Outcome::choose))]
 fn default_sound(rows: &[u64], items: &[u64], k: usize, d: u64) -> bool
     requires { (k < length rows.now / row_width) × (row_sound rows.now items.now k ≡ true) }
     ensures { result ≡ default_sound (type_of rows.now items.now k) d }
