@@ -1,9 +1,13 @@
 -- What the code relies on of rows and items, and the tests of TableCheck that stand inside a rule, under names.
 -- Assumes nothing.
-use Rattle.std.specs.Prelude.{◌≡◌, Bool, true, cond, not, ◌&&◌, ◌||◌, List, ℕ, ◌+◌, ◌<◌, ltb, leb, eqb}
+use Rattle.std.specs.Prelude.{◌≡◌, Bool, true, cond, not, ◌&&◌, ◌||◌, List, [], ◌∷◌, ℕ, ◌+◌, ◌<◌, ltb, leb, eqb}
 use Rattle.x696.specs.Integer.{has_lower, has_upper, rank, is_unsigned}
-use Rattle.x696.specs.Table.{enumerated_number}
+use Rattle.x696.specs.Table.{item_word, enumerated_number}
 use Rattle.x696.specs.TableFault.{row_sound}
+
+-- the three words of an item
+abbrev pub item_words : (items : List ℕ) → (i : ℕ) → List ℕ
+item_words items i = item_word items i 0 ∷ item_word items i 1 ∷ item_word items i 2 ∷ []
 
 -- the signed order of two items' numbers
 abbrev pub rank_before : (items : List ℕ) → (i j : ℕ) → Bool

@@ -4,7 +4,7 @@ ghost use Rattle.x696.specs.Enumerated.{listed};
 ghost use Rattle.x696.specs.Table.{item_width, numbers_from};
 ghost use Rattle.table.specs.Orders.{Ascends};
 
-use crate::words::enumerated_number;
+use crate::words::items_from;
 use octets::numbers::rank_of;
 
 // Whether w is among the n numbers from `first` on.
@@ -12,20 +12,7 @@ pub fn is_listed(items: &[u64], first: usize, n: usize, w: u64) -> bool
     requires { (first + n ≤ length items.now / item_width) × Ascends items.now first n }
     ensures { result ≡ listed w (numbers_from items.now first n) }
 {
-    let goal = rank_of(w);
-    let mut low = 0;
-    let mut high = n;
-    while low < high {
-        let mid = low + (high - low) / 2;
-        let at = rank_of(enumerated_number(items, first + mid));
-        if at == goal {
-            return true;
-        }
-        if at < goal {
-            low = mid + 1;
-        } else {
-            high = mid;
-        }
-    }
-    false
+    items_from(items, first, n)
+        .binary_search_by_key(&rank_of(w), |item| rank_of(item[0]))
+        .is_ok()
 }
