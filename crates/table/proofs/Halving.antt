@@ -1,60 +1,70 @@
--- What the library's halving finds among n items: an item that compares equal, or none does. Then the numbers of an ENUMERATED.
--- Assumes nothing.
-use Rattle.std.proofs.Common.{◌≡◌, refl, sym, ap, ◌∙◌, ℕ, zero, suc, ◌+◌, ◌*◌, ◌^◌, ◌/◌, ◌<◌, ◌≤◌, true, false, List, [], ◌∷◌, length, get_or, take, drop, add-zero, eqb, arith}
-use Rattle.std.proofs.lemmas.List.{drop-drop, get_or-take, get_or-drop}
-use Rattle.std.proofs.Math.Seq.{drop-cons}
-use Rattle.std.specs.Simd.{first_chunks}
-use Rattle.std.specs.Prelude.{Result, Ok, Err, MatchResult}
-use Rattle.std.proofs.Common.{Ordering, Less, Equal, Greater}
+-- What halving finds among n places: places below `low` compare less and those from `high` on greater, so that what is sought lies
+-- between, or is not there. Then the numbers of an ENUMERATED. Assumes nothing.
+use Rattle.std.proofs.Common.{◌≡◌, refl, sym, ◌∙◌, ℕ, zero, suc, ◌+◌, ◌^◌, ◌<◌, ◌≤◌, true, false, List, Option, Some, None, Ordering, Less, Equal, Greater, get_or, add-zero, eqb, arith}
 use Rattle.std.specs.Ordering.{nat_cmp, ordering_index}
-use Rattle.std.specs.List.{HoldsAt, AllWithin}
-use Rattle.std.specs.List.Sorted.{IsBinarySearchResult, IsSearchInRange, IsNonDecreasingBy}
-use Rattle.std.specs.Result.{is_ok}
+use Rattle.std.specs.Option.{is_some}
 use borrow.Author.Tests.{tests, eq-eqb, ne_eqb}
 use Rattle.x696.proofs.OutcomeLaws.{cases, cases_lt}
 use Rattle.x696.specs.Integer.{rank}
 use Rattle.x696.specs.Enumerated.{listed}
-use Rattle.x696.specs.Table.{item_width, item_word, enumerated_number, numbers_from}
-use Rattle.table.specs.Orders.{item_words, Ascends}
+use Rattle.x696.specs.Table.{item_word, enumerated_number, numbers_from}
+use Rattle.table.specs.Orders.{Ascends, Rises, FindsBy}
 
--- ---- items cut out of the list
-chunk_at : (k i : ℕ) (xs : List ℕ) (d : List ℕ) → i < k → get_or (first_chunks 3 k xs) i d ≡ take 3 (drop (i * 3) xs)
-chunk_at zero i xs d h = absurd (omega arith)
-chunk_at (suc k) zero xs d h = refl
-chunk_at (suc k) (suc i) xs d h =
-    let e : 3 + i * 3 ≡ suc i * 3 = omega arith in
-    rw (← e) (chunk_at k i (drop 3 xs) d (omega arith) ∙ ap (take 3) (drop-drop (i * 3) 3 xs))
+at_most : (o p : Ordering) → ordering_index o ≤ ordering_index p → p ≡ Less → o ≡ Less
+at_most Less p h e = refl
+at_most Equal p h e = absurd (omega (arith, rw e at h))
+at_most Greater p h e = absurd (omega (arith, rw e at h))
 
-three : (m : ℕ) (xs : List ℕ) → m + 2 < length xs
-    → take 3 (drop m xs) ≡ get_or xs m 0 ∷ get_or xs (suc m) 0 ∷ get_or xs (suc (suc m)) 0 ∷ []
-three m xs h =
-    rw (drop-cons xs m 0 (omega arith), drop-cons xs (suc m) 0 (omega arith), drop-cons xs (suc (suc m)) 0 (omega arith))
+at_least : (o p : Ordering) → ordering_index o ≤ ordering_index p → o ≡ Greater → p ≡ Greater
+at_least o Less h e = absurd (omega (arith, rw e at h))
+at_least o Equal h e = absurd (omega (arith, rw e at h))
+at_least o Greater h e = refl
 
-words_of : (items : List ℕ) (i : ℕ) → i < length items / item_width → take 3 (drop (i * 3) items) ≡ item_words items i
-unfolding item_word
-words_of items i h =
-    let a : i * 3 + 0 ≡ i * 3 = omega arith in
-    let b : i * 3 + 1 ≡ suc (i * 3) = omega arith in
-    let c : i * 3 + 2 ≡ suc (suc (i * 3)) = omega arith in
-    rw (a, b, c) (three (i * 3) items (omega arith))
+module _ (gives : ℕ → Ordering → Type 0) (n : ℕ) where
+  pub record Between (low high : ℕ) : Type 0 where
+    pub ordered : low ≤ high
+    pub inside : high ≤ n
+    pub apart : (order : ℕ → Ordering) → ((i : ℕ) (o : Ordering) → gives i o → o ≡ order i) → Rises order n
+        → ((i : ℕ) → i < low → order i ≡ Less) × ((i : ℕ) → high ≤ i → i < n → order i ≡ Greater)
 
-pub words_from : (items : List ℕ) (first n m i : ℕ) (d : List ℕ) → first + n ≤ length items / item_width → i < n → i < m
-    → get_or (take m (drop first (first_chunks 3 (length items / 3) items))) i d ≡ item_words items (first + i)
-words_from items first n m i d range h g =
-    get_or-take m _ i d g ∙ get_or-drop first _ i d ∙ chunk_at _ (first + i) items d (omega arith)
-    ∙ words_of items (first + i) (omega arith)
+  pub between_all : Between 0 n
+  between_all = record {
+    ordered = omega arith;
+    inside = omega arith;
+    apart = λ order is up. (λ i h. absurd (omega arith), λ i h g. absurd (omega arith));
+  }
 
--- ---- the library's search, in a list where the comparisons rise
-module _ {X : Type 0} (xs : List X) (ord : X → Ordering) (rises : IsNonDecreasingBy (λ y. ordering_index (ord y)) xs) where
-  abbrev pub Found : Result ℕ ℕ → Type 0
-  Found r = MatchResult r (λ i. (i < length xs) × HoldsAt (λ y. ord y ≡ Equal) xs i) (λ _. AllWithin (λ y. ord y ≡ Equal → ⊥) xs 0 (length xs))
+  module _ {low high : ℕ} (b : Between low high) where
+    pub between_none : high ≤ low → FindsBy gives n None
+    between_none h order is up i g e =
+        cases_lt i low
+        (λ _ l. let less = (b.apart order is up).0 i l in cc)
+        (λ _ l. let more = (b.apart order is up).1 i (omega (arith, b.ordered)) g in cc)
 
-  pub searched : (r : Result ℕ ℕ) → IsSearchInRange r (length xs) → IsBinarySearchResult ord xs r → Found r
-  searched (Ok i) l is = (l, is)
-  searched (Err i) l is = λ k d _ g e.
-      cases_lt k i
-      (λ _ h. let less = (is rises).0 k d (omega arith) h in cc)
-      (λ _ h. let more = (is rises).1 k d h g in cc)
+    module _ (mid : ℕ) (lo : low ≤ mid) (hi : mid < high) {o : Ordering} (gave : gives mid o) where
+      pub found_at : o ≡ Equal → FindsBy gives n (Some mid)
+      found_at e order is up = (omega (arith, b.inside), sym (is mid o gave) ∙ e)
+
+      -- what is sought lies behind the middle, or before it
+      pub between_upper : o ≡ Less → Between (mid + 1) high
+      between_upper e = record {
+        ordered = omega arith;
+        inside = b.inside;
+        apart = λ order is up. (
+          (λ i h. at_most _ (order mid) (up i mid (omega arith) (omega (arith, b.inside))) (sym (is mid o gave) ∙ e)),
+          (b.apart order is up).1,
+        );
+      }
+
+      pub between_lower : o ≡ Greater → Between low mid
+      between_lower e = record {
+        ordered = lo;
+        inside = omega (arith, b.inside);
+        apart = λ order is up. (
+          (b.apart order is up).0,
+          (λ i h g. at_least (order mid) _ (up mid i h g) (sym (is mid o gave) ∙ e)),
+        );
+      }
 
 -- words of one rank are one word
 pub rank_one : (a b : ℕ) → a < 2 ^ 64 → b < 2 ^ 64 → rank a ≡ rank b → a ≡ b
@@ -84,36 +94,33 @@ module _ (items : List ℕ) (w : ℕ) where
             let q : suc first + i ≡ first + suc i = omega arith in h (suc i) (omega arith) (rw q at e)),
       )
 
-abbrev pub by_rank : (goal : ℕ) → (words : List ℕ) → Ordering
-by_rank goal y = nat_cmp (rank (get_or y 0 0)) goal
+-- ---- numbers compared by rank
+later : (a b g : ℕ) → a ≤ b → ordering_index (nat_cmp a g) ≤ ordering_index (nat_cmp b g)
+later a b g h = grind (arith, tests)
 
-module _ (items : List ℕ) (first n w goal : ℕ) (sought : goal ≡ rank w) (xs : List (List ℕ)) (long : length xs ≡ n)
-    (words : (i : ℕ) (d : List ℕ) → i < n → get_or xs i d ≡ item_words items (first + i)) where
-  rank_at : (i : ℕ) (d : List ℕ) → i < n → rank (get_or (get_or xs i d) 0 0) ≡ rank (enumerated_number items (first + i))
-  rank_at i d h = rw (words i d h)
+equal_of : (a b : ℕ) → nat_cmp a b ≡ Equal → a ≡ b
+equal_of a b e = grind (arith, tests)
 
-  later : (a b g : ℕ) → a ≤ b → ordering_index (nat_cmp a g) ≤ ordering_index (nat_cmp b g)
-  later a b g h = grind (arith, tests)
+of_equal : (a : ℕ) → nat_cmp a a ≡ Equal
+of_equal a = grind (arith, tests)
 
-  equal_of : (a b : ℕ) → nat_cmp a b ≡ Equal → a ≡ b
-  equal_of a b e = grind (arith, tests)
+abbrev pub by_rank : (items : List ℕ) → (first goal i : ℕ) → Ordering
+by_rank items first goal i = nat_cmp (rank (enumerated_number items (first + i))) goal
 
-  of_equal : (a : ℕ) → nat_cmp a a ≡ Equal
-  of_equal a = grind (arith, tests)
-
-  pub ranks_rise : Ascends items first n → IsNonDecreasingBy (λ y. ordering_index (by_rank goal y)) xs
-  ranks_rise ascends i j d h g =
-      rw (rank_at i d (omega arith), rank_at j d (omega arith))
-      (later _ _ goal (cases_lt i j
+module _ (items : List ℕ) (first n w : ℕ) (ascends : Ascends items first n) where
+  ranks_rise : (goal : ℕ) → Rises (by_rank items first goal) n
+  ranks_rise goal i j h g =
+      later _ _ goal (cases_lt i j
       (λ _ l. let a = ascends i j l (omega arith) in omega arith)
-      (λ _ l. let e : i ≡ j = omega arith in rw e (omega arith))))
+      (λ _ l. let e : i ≡ j = omega arith in rw e (omega arith)))
 
-  pub listed_of : w < 2 ^ 64 → ((i : ℕ) → get_or items i 0 < 2 ^ 64) → (rises : IsNonDecreasingBy (λ y. ordering_index (by_rank goal y)) xs)
-      → (r : Result ℕ ℕ) → Found xs (by_rank goal) rises r → is_ok r ≡ listed w (numbers_from items first n)
-  unfolding item_word
-  listed_of small fits rises (Ok i) (l, is) =
-      let e : rank (enumerated_number items (first + i)) ≡ rank w = sym (rank_at i [] (omega arith)) ∙ equal_of _ _ (is []) ∙ sought in
-      sym (listed_there items w first n i (omega arith) (rank_one w _ small (fits _) (sym e)))
-  listed_of small fits rises (Err i) none =
-      sym (listed_nowhere items w first n λ k l e.
-          none k [] (omega arith) (omega arith) (rw (rank_at k [] l, ← e, sought) (of_equal (rank w))))
+  module _ {goal : ℕ} (sought : goal ≡ rank w) (small : w < 2 ^ 64) (fits : (i : ℕ) → get_or items i 0 < 2 ^ 64)
+      (gives : ℕ → Ordering → Type 0) (is : (i : ℕ) (o : Ordering) → gives i o → o ≡ by_rank items first goal i) where
+    pub listed_of : (r : Option ℕ) → FindsBy gives n r → is_some r ≡ listed w (numbers_from items first n)
+    unfolding item_word
+    listed_of (Some i) found =
+        let (l, e) = found _ is (ranks_rise goal) in
+        sym (listed_there items w first n i l (rank_one w _ small (fits _) (sym (equal_of _ _ e ∙ sought))))
+    listed_of None none =
+        sym (listed_nowhere items w first n λ k l e.
+        none _ is (ranks_rise goal) k l (rw (← e, sought) (of_equal (rank w))))

@@ -1,10 +1,9 @@
 -- Loops over n items from the first on, in rest form: what is left at item i is what there was at the start.
 -- Assumes nothing.
-use mathlib.Core.Path.{◌≡◌, refl, sym, ap, ◌∙◌}
+use mathlib.Core.Path.{◌≡◌, refl, ap, ◌∙◌}
 use mathlib.Core.Bool.{Bool, true, false, ◌&&◌}
-use Prim.Native.Nat.{ℕ, zero, suc, ◌+◌, ◌-◌, ◌<◌, ◌≤◌, max}
+use Prim.Native.Nat.{ℕ, zero, suc, ◌+◌, ◌-◌, max}
 use native.Mathlib.Omega.{arith}
-use native.Mathlib.Nat.{add-zero}
 use Rattle.std.proofs.Common.{add-one}
 use Rattle.x696.specs.Outcome.{choose}
 use denote.Param.Members.{Mut}
@@ -68,4 +67,3 @@ module _ (f : ℕ → ℕ) where
   unfolding greatest
   greatest_max first zero = refl
   greatest_max first (suc n) = rw (fold_greatest (f first) (first + 1) n, add-one)
-

@@ -70,7 +70,12 @@ fn judge_row(rows: &[u64], items: &[u64], row: usize, nestings: &[u8; 256]) -> O
 }
 
 // The first n rows judged, each once, the row number falling: their nestings are stored, or the first bad row is named.
-pub fn judge_rows(rows: &[u64], items: &[u64], n: usize, nestings: &mut [u8; 256]) -> Result<(), usize>
+pub fn judge_rows(
+    rows: &[u64],
+    items: &[u64],
+    n: usize,
+    nestings: &mut [u8; 256],
+) -> Result<(), usize>
     requires { (n ≤ length rows.now / row_width) × (n ≤ 256) × (length nestings.old ≡ 256) }
     ensures ok { IfOk result (λ _. SoundRows rows.now items.now n nestings.new) }
     ensures err { IfErr result (λ row. rows_fault rows.now items.now 0 n [] ≡ bad_row row) }

@@ -4,7 +4,8 @@ ghost use Rattle.x696.specs.Enumerated.{listed};
 ghost use Rattle.x696.specs.Table.{item_width, numbers_from};
 ghost use Rattle.table.specs.Orders.{Ascends};
 
-use crate::words::items_from;
+use crate::search::find_by;
+use crate::words::enumerated_number;
 use octets::numbers::rank_of;
 
 // Whether w is among the n numbers from `first` on.
@@ -12,7 +13,9 @@ pub fn is_listed(items: &[u64], first: usize, n: usize, w: u64) -> bool
     requires { (first + n ≤ length items.now / item_width) × Ascends items.now first n }
     ensures { result ≡ listed w (numbers_from items.now first n) }
 {
-    items_from(items, first, n)
-        .binary_search_by_key(&rank_of(w), |item| rank_of(item[0]))
-        .is_ok()
+    let goal = rank_of(w);
+    find_by(n, |i| {
+        rank_of(enumerated_number(items, first + i)).cmp(&goal)
+    })
+    .is_some()
 }

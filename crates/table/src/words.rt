@@ -1,9 +1,8 @@
 // The words of rows and items by name. Widths and positions of words stand here alone.
-ghost use Rattle.std.specs.Prelude.{◌≡◌, ℕ, List, ◌+◌, ◌*◌, ◌/◌, ◌<◌, ◌≤◌, length, get_or};
+ghost use Rattle.std.specs.Prelude.{◌≡◌, ◌+◌, ◌*◌, ◌/◌, ◌<◌, ◌≤◌, length};
 ghost use Rattle.x696.specs.Table.{row_width, row_word, row_kind, row_flags, row_a, row_b, row_first, row_count};
 ghost use Rattle.x696.specs.Table.{item_width, item_word, enumerated_number, component_row, component_mark, component_default};
 ghost use Rattle.x696.specs.Table.{tag_class, tag_number, alternative_row};
-ghost use Rattle.table.specs.Orders.{item_words};
 
 // Which word of an item names a row: of a SEQUENCE's or a SEQUENCE OF's, and of a CHOICE's.
 pub const COMPONENT_ROW: usize = 0;
@@ -35,16 +34,6 @@ pub fn item_word(items: &[u64], i: usize, j: usize) -> u64
     ensures { result ≡ item_word items.now i j }
 {
     items[i * 3 + j]
-}
-
-// n items from the first on, each as its three words.
-pub fn items_from(items: &[u64], first: usize, n: usize) -> &[[u64; 3]]
-    requires { first + n ≤ length items.now / item_width }
-    ensures long { length result.now ≡ n }
-    ensures words { (i : ℕ) (d : List ℕ) → i < n → get_or result.now i d ≡ item_words items.now (first + i) }
-{
-    let (whole, _) = items.as_chunks::<3>();
-    &whole[first..first + n]
 }
 
 pub fn row_kind(rows: &[u64], row: usize) -> u64

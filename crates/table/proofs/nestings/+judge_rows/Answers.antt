@@ -10,7 +10,7 @@ returns-then-n-eq0-clause-ok t c = judged_none _ _ _ c.requires.2 c.if-n-eq0.tru
 pub returns-in_err-judge_rows-clause-err : goal.returns-in_err-judge_rows-clause-err
 returns-in_err-judge_rows-clause-err t c =
     let bad : rows_fault c.args.rows.now c.args.items.now 0 c.args.n [] ≡ bad_row c.in_err-judge_rows.field-0.0 =
-        bad_before _ _ _ (omega arith) c.in_err-judge_rows.ensures.err in
+    bad_before _ _ _ (omega arith) c.in_err-judge_rows.ensures.err in
     search rules
 
 pub returns-in_err-nestings-clause-err : goal.returns-in_err-nestings-clause-err
@@ -19,7 +19,7 @@ returns-in_err-nestings-clause-err t c =
     let none = rw c.in_err-nestings.ensures.ok_part at c.in_err-nestings.ensures.value in
     let row : c.in_err-nestings.field-0.0 ≡ c.args.n - 1 = cc in
     let bad : rows_fault c.args.rows.now c.args.items.now 0 c.args.n [] ≡ bad_row c.in_err-nestings.field-0.0 =
-        rw row (bad_last _ _ (c.args.n - 1) (omega arith) c.in_ok-judge_rows.ensures.ok out) in
+    rw row (bad_last _ _ (c.args.n - 1) (omega arith) c.in_ok-judge_rows.ensures.ok out) in
     search rules
 
 pub returns-clause-ok : goal.returns-clause-ok

@@ -1,5 +1,5 @@
 -- The greatest of the nestings that the range of items gives. Assumes nothing.
-use Rattle.std.proofs.Common.{◌≡◌, ℕ, ◌+◌, get_or, sym, ap, ◌∙◌, arith, rules}
+use Rattle.std.proofs.Common.{ℕ, ◌+◌, get_or, sym, ap, ◌∙◌, arith, rules}
 use Rattle.std.proofs.lemmas.Iterator.Adapters.{option_map_id}
 use Rattle.std.proofs.lemmas.Iterator.{YieldsList-from_range, YieldsList-from_map}
 use Rattle.std.proofs.lemmas.Iterator.Consumers.{max_from_yields_List}
