@@ -1,4 +1,4 @@
--- Loops over n items from the first on, in rest form: what is left at item i is what there was at the start.
+-- What `all` and `max` find of a range of items: `every`, `ascending` and `greatest` of the definitions.
 -- Assumes nothing.
 use mathlib.Core.Path.{◌≡◌, refl, ap, ◌∙◌}
 use mathlib.Core.Bool.{Bool, true, false, ◌&&◌}
@@ -18,6 +18,7 @@ use mathlib.Core.List.{map}
 use Rattle.std.specs.declared.ops.Range.{Range}
 use Rattle.x696.specs.TableCheck.{given, every, ascending, greatest}
 
+-- a test, and only if it holds the next one
 and_given : (t u : Bool) → t && u ≡ given t λ _. u
 unfolding given choose
 and_given true u = refl

@@ -69,7 +69,8 @@ fn judge_row(rows: &[u64], items: &[u64], row: usize, nestings: &[u8; 256]) -> O
     if too_deep { None } else { Some(deep as u8) }
 }
 
-// The first n rows judged, each once, the row number falling: their nestings are stored, or the first bad row is named.
+// The first n rows judged, each once: their nestings are stored, or the first bad row is named. Not a `for` over 0..n: document 01
+// names the form, a function with the row number falling.
 pub fn judge_rows(
     rows: &[u64],
     items: &[u64],
