@@ -1,18 +1,70 @@
--- Numbers found by halving: those below `low` are too small and those from `high` on too large, so that what is sought lies
--- between, or is not there. Assumes nothing.
-use mathlib.Core.Path.{◌≡◌, refl}
-use mathlib.Core.Bool.{true, false}
-use mathlib.Core.List.{List}
-use Prim.Native.Nat.{ℕ, zero, suc, ◌+◌, ◌^◌, ◌<◌, ◌≤◌}
-use native.Mathlib.Omega.{arith}
-use native.Mathlib.Nat.{add-zero}
-use lib.Dec.{eqb}
-use borrow.Author.Tests.{eq-eqb, ne_eqb}
+-- What halving finds among n places: places below `low` compare less and those from `high` on greater, so that what is sought lies
+-- between, or is not there. Then the numbers of an ENUMERATED. Assumes nothing.
+use Rattle.std.proofs.Common.{◌≡◌, refl, sym, ◌∙◌, ℕ, zero, suc, ◌+◌, ◌^◌, ◌<◌, ◌≤◌, true, false, List, Option, Some, None, Ordering, Less, Equal, Greater, get_or, add-zero, eqb, arith}
+use Rattle.std.specs.Ordering.{nat_cmp, ordering_index}
+use Rattle.std.specs.Option.{is_some}
+use borrow.Author.Tests.{tests, eq-eqb, ne_eqb}
 use Rattle.x696.proofs.OutcomeLaws.{cases, cases_lt}
 use Rattle.x696.specs.Integer.{rank}
 use Rattle.x696.specs.Enumerated.{listed}
-use Rattle.x696.specs.Table.{enumerated_number, numbers_from}
-use Rattle.table.specs.Orders.{Ascends}
+use Rattle.x696.specs.Table.{item_word, enumerated_number, numbers_from}
+use Rattle.table.specs.Orders.{Ascends, Rises, FindsBy}
+
+at_most : (o p : Ordering) → ordering_index o ≤ ordering_index p → p ≡ Less → o ≡ Less
+at_most Less p h e = refl
+at_most Equal p h e = absurd (omega (arith, rw e at h))
+at_most Greater p h e = absurd (omega (arith, rw e at h))
+
+at_least : (o p : Ordering) → ordering_index o ≤ ordering_index p → o ≡ Greater → p ≡ Greater
+at_least o Less h e = absurd (omega (arith, rw e at h))
+at_least o Equal h e = absurd (omega (arith, rw e at h))
+at_least o Greater h e = refl
+
+module _ (gives : ℕ → Ordering → Type 0) (n : ℕ) where
+  pub record Between (low high : ℕ) : Type 0 where
+    pub ordered : low ≤ high
+    pub inside : high ≤ n
+    pub apart : (order : ℕ → Ordering) → ((i : ℕ) (o : Ordering) → gives i o → o ≡ order i) → Rises order n
+        → ((i : ℕ) → i < low → order i ≡ Less) × ((i : ℕ) → high ≤ i → i < n → order i ≡ Greater)
+
+  pub between_all : Between 0 n
+  between_all = record {
+    ordered = omega arith;
+    inside = omega arith;
+    apart = λ order is up. (λ i h. absurd (omega arith), λ i h g. absurd (omega arith));
+  }
+
+  module _ {low high : ℕ} (b : Between low high) where
+    pub between_none : high ≤ low → FindsBy gives n None
+    between_none h order is up i g e =
+        cases_lt i low
+        (λ _ l. let less = (b.apart order is up).0 i l in cc)
+        (λ _ l. let more = (b.apart order is up).1 i (omega (arith, b.ordered)) g in cc)
+
+    module _ (mid : ℕ) (lo : low ≤ mid) (hi : mid < high) {o : Ordering} (gave : gives mid o) where
+      pub found_at : o ≡ Equal → FindsBy gives n (Some mid)
+      found_at e order is up = (omega (arith, b.inside), sym (is mid o gave) ∙ e)
+
+      -- what is sought lies behind the middle, or before it
+      pub between_upper : o ≡ Less → Between (mid + 1) high
+      between_upper e = record {
+        ordered = omega arith;
+        inside = b.inside;
+        apart = λ order is up. (
+          (λ i h. at_most _ (order mid) (up i mid (omega arith) (omega (arith, b.inside))) (sym (is mid o gave) ∙ e)),
+          (b.apart order is up).1,
+        );
+      }
+
+      pub between_lower : o ≡ Greater → Between low mid
+      between_lower e = record {
+        ordered = lo;
+        inside = omega (arith, b.inside);
+        apart = λ order is up. (
+          (b.apart order is up).0,
+          (λ i h g. at_least (order mid) _ (up mid i h g) (sym (is mid o gave) ∙ e)),
+        );
+      }
 
 -- words of one rank are one word
 pub rank_one : (a b : ℕ) → a < 2 ^ 64 → b < 2 ^ 64 → rank a ≡ rank b → a ≡ b
@@ -42,49 +94,33 @@ module _ (items : List ℕ) (w : ℕ) where
             let q : suc first + i ≡ first + suc i = omega arith in h (suc i) (omega arith) (rw q at e)),
       )
 
-module _ (items : List ℕ) (first n goal : ℕ) where
-  abbrev at : ℕ → ℕ
-  at i = rank (enumerated_number items (first + i))
+-- ---- numbers compared by rank
+later : (a b g : ℕ) → a ≤ b → ordering_index (nat_cmp a g) ≤ ordering_index (nat_cmp b g)
+later a b g h = grind (arith, tests)
 
-  pub record Between (low high : ℕ) : Type 0 where
-    pub ordered : low ≤ high
-    pub inside : high ≤ n
-    pub below : (i : ℕ) → i < low → at i < goal
-    pub above : (i : ℕ) → high ≤ i → i < n → goal < at i
+equal_of : (a b : ℕ) → nat_cmp a b ≡ Equal → a ≡ b
+equal_of a b e = grind (arith, tests)
 
-  pub between_all : Between 0 n
-  between_all = record {
-    ordered = omega arith;
-    inside = omega arith;
-    below = λ i h. absurd (omega arith);
-    above = λ i h g. absurd (omega arith);
-  }
+of_equal : (a : ℕ) → nat_cmp a a ≡ Equal
+of_equal a = grind (arith, tests)
 
-  module _ (ascends : Ascends items first n) {low high : ℕ} (b : Between low high) {mid x : ℕ} (lo : low ≤ mid) (hi : mid < high)
-      (e : x ≡ at mid) where
-    -- the number in the middle is too small, or too large
-    pub between_upper : x < goal → Between (mid + 1) high
-    between_upper h = record {
-      ordered = omega arith;
-      inside = b.inside;
-      below = λ i g. cases_lt i mid
-          (λ _ l. let a = ascends i mid l (omega (arith, b.inside)) in omega arith)
-          (λ _ l. let q : i ≡ mid = omega arith in rw q (omega arith));
-      above = b.above;
-    }
+abbrev pub by_rank : (items : List ℕ) → (first goal i : ℕ) → Ordering
+by_rank items first goal i = nat_cmp (rank (enumerated_number items (first + i))) goal
 
-    pub between_lower : goal ≤ x → (x ≡ goal → ⊥) → Between low mid
-    between_lower h d = record {
-      ordered = lo;
-      inside = omega (arith, b.inside);
-      below = b.below;
-      above = λ i g k. cases_lt mid i
-          (λ _ l. let a = ascends mid i l k in omega arith)
-          (λ _ l. let q : i ≡ mid = omega arith in rw (q, ← e) (cases_lt goal x (λ _ m. m) (λ _ m. absurd (d (omega arith)))));
-    }
+module _ (items : List ℕ) (first n w : ℕ) (ascends : Ascends items first n) where
+  ranks_rise : (goal : ℕ) → Rises (by_rank items first goal) n
+  ranks_rise goal i j h g =
+      later _ _ goal (cases_lt i j
+      (λ _ l. let a = ascends i j l (omega arith) in omega arith)
+      (λ _ l. let e : i ≡ j = omega arith in rw e (omega arith)))
 
-  pub between_none : {low high : ℕ} → Between low high → high ≤ low → (i : ℕ) → i < n → at i ≡ goal → ⊥
-  between_none {low} {high} b h i g e =
-      cases_lt i low
-      (λ _ l. let a = b.below i l in omega arith)
-      (λ _ l. let a = b.above i (omega (arith, b.ordered)) g in omega arith)
+  module _ {goal : ℕ} (sought : goal ≡ rank w) (small : w < 2 ^ 64) (fits : (i : ℕ) → get_or items i 0 < 2 ^ 64)
+      (gives : ℕ → Ordering → Type 0) (is : (i : ℕ) (o : Ordering) → gives i o → o ≡ by_rank items first goal i) where
+    pub listed_of : (r : Option ℕ) → FindsBy gives n r → is_some r ≡ listed w (numbers_from items first n)
+    unfolding item_word
+    listed_of (Some i) found =
+        let (l, e) = found _ is (ranks_rise goal) in
+        sym (listed_there items w first n i l (rank_one w _ small (fits _) (sym (equal_of _ _ e ∙ sought))))
+    listed_of None none =
+        sym (listed_nowhere items w first n λ k l e.
+        none _ is (ranks_rise goal) k l (rw (← e, sought) (of_equal (rank w))))

@@ -1,14 +1,13 @@
 -- The rows judged one after the other: what a judged row says, and the fault of n + 1 rows from that of n.
 -- Assumes nothing.
 use mathlib.Core.Path.{◌≡◌, refl, sym, ap, ◌∙◌}
-use mathlib.Core.Bool.{Bool, true, false, false≢true}
+use mathlib.Core.Bool.{Bool, true, false}
 use mathlib.Core.List.{List, []}
-use Prim.Native.Nat.{ℕ, zero, suc, ◌+◌, ◌<◌, ◌≤◌}
+use Prim.Native.Nat.{ℕ, zero, suc, ◌+◌, ◌<◌}
 use native.Mathlib.Omega.{arith}
 use native.Mathlib.Nat.{add-zero, zero-add, not-suc-le-zero}
 use lib.ListN.{length, length-set, get_or, set}
 use lib.Seq.{get_or-set_same, get_or-set_other}
-use borrow.Author.Tests.{le-leb, lt-leb}
 use Rattle.x696.specs.Outcome.{choose}
 use Rattle.x696.proofs.OutcomeLaws.{cases, cases_lt}
 use Rattle.x696.specs.TableCheck.{given, greatest}
@@ -19,29 +18,22 @@ use Rattle.x696.proofs.TableKinds.{no_group}
 use Rattle.x696.proofs.TableNesting.{nestings_at}
 use Rattle.x696.proofs.TableRows.{kind_cases, sequence_row, choice_row}
 use Rattle.table.proofs.Nested.{element_lower}
-use Rattle.table.specs.declared.nestings.Judged.{Judged}
-use Rattle.table.specs.Judged.{kept, JudgesRow, Judges}
+use Rattle.std.specs.Prelude.{cond, Option, Some, None}
+use Rattle.std.proofs.lemmas.Option.{none-some, cond_some}
+use Rattle.table.specs.Judged.{kept, judged_row, SoundRows}
 use Rattle.table.specs.Orders.{SoundBelow}
 
-module _ (rows items : List ℕ) (row : ℕ) (ns ms : List ℕ) where
-  pub row_breaks : row_sound rows items row ≡ false → JudgesRow rows items row ns ms true
-  unfolding given choose
-  row_breaks e = record { refuses = λ _. rw e; takes = λ b. absurd (false≢true (sym b)) }
+-- what a judged row tells
+out_of : (t : Bool) (x : ℕ) → cond t (Some x) None ≡ None → t ≡ false
+out_of true x e = absurd (none-some x (sym e))
+out_of false x e = refl
 
-  module _ (s : row_sound rows items row ≡ true) {deep : ℕ} (e : deep ≡ row_nesting rows items ns row) where
-    pub row_nests : 16 < deep → JudgesRow rows items row ns ms true
-    unfolding given choose
-    row_nests h = record {
-      refuses = λ _. rw (s, ← e, lt-leb deep 16 h);
-      takes = λ b. absurd (false≢true (sym b));
-    }
+module _ (rows items ns : List ℕ) (row : ℕ) {r : Option ℕ} (j : r ≡ judged_row rows items ns row) where
+  pub row_out : r ≡ None → kept rows items ns row ≡ false
+  row_out e = out_of _ _ (sym j ∙ e)
 
-    pub row_taken : deep ≤ 16 → ms ≡ set ns row deep → JudgesRow rows items row ns ms false
-    unfolding given choose
-    row_taken h stored = record {
-      refuses = λ b. absurd (false≢true b);
-      takes = λ _. (rw (s, ← e, le-leb deep 16 h), rw (stored, e) refl);
-    }
+  pub row_in : {deep : ℕ} → r ≡ Some deep → (kept rows items ns row ≡ true) × (row_nesting rows items ns row ≡ deep)
+  row_in e = cond_some _ _ _ (sym j ∙ e)
 
 -- where two functions agree on the items, so do their greatest
 module _ (f g : ℕ → ℕ) where
@@ -62,7 +54,7 @@ module _ (rows items : List ℕ) where
         (λ k.
         let r = sequence_row rows items row s k in
         rw k (ap suc (greatest_agree _ _ _ _ λ i h. agree _ (r.component i h).lower)))
-        (λ k. rw k (ap suc (greatest_agree _ _ _ _ λ i h. agree _ (element_lower rows items row s k i h))))
+        (λ k. rw k (ap suc (greatest_agree _ _ _ _ λ i h. agree _ (element_lower _ _ _ s k i h))))
         (λ k.
         let r = choice_row rows items row s k in
         rw k (ap suc (greatest_agree _ _ _ _ λ i h. agree _ (r.alternative i h).lower)))
@@ -92,71 +84,62 @@ module _ (rows items : List ℕ) where
   unfolding nestings_of
   rows_more n e = rw (zero-add n, e) at (rows_then 0 n)
 
-  pub judged_none : (ns : List ℕ) {n : ℕ} → length ns ≡ 256 → n ≡ 0
-      → Judges rows items n ns (record { bad = false; row = 0 })
+  pub judged_none : (ns : List ℕ) {n : ℕ} → length ns ≡ 256 → n ≡ 0 → SoundRows rows items n ns
   unfolding rows_fault
   judged_none ns l e = rw e (record {
-    refuses = λ b. absurd (false≢true b);
-    takes = λ _. refl;
-    below = λ _ k h. absurd (not-suc-le-zero h);
-    whole = λ _. l;
-    nested = λ _ k h. absurd (not-suc-le-zero h);
+    sound = refl;
+    below = λ k h. absurd (not-suc-le-zero h);
+    whole = l;
+    nested = λ k h. absurd (not-suc-le-zero h);
   })
 
   module _ (n : ℕ) {m : ℕ} (more : suc n ≡ m) where
-    pub judged_before : (ns : List ℕ) (r : Judged) → Judges rows items n ns r → r.bad ≡ true → Judges rows items m ns r
+    pub bad_before : {row : ℕ} → rows_fault rows items 0 n [] ≡ bad_row row → rows_fault rows items 0 m [] ≡ bad_row row
     unfolding then_row
-    judged_before ns r j b = rw (← more) (record {
-      refuses = λ _. rows_more n (j.refuses b);
-      takes = λ g. absurd (false≢true (sym g ∙ b));
-      below = λ g. absurd (false≢true (sym g ∙ b));
-      whole = λ g. absurd (false≢true (sym g ∙ b));
-      nested = λ g. absurd (false≢true (sym g ∙ b));
-    })
+    bad_before e = rw (← more) (rows_more n e)
 
-    module _ (ns ms : List ℕ) (before : Judged) (bad : Bool) (j : Judges rows items n ns before)
-        (good : before.bad ≡ false) (few : n < 256) (last : JudgesRow rows items n ns ms bad) where
+    module _ {ns : List ℕ} (before : SoundRows rows items n ns) where
       same : kept rows items ns n ≡ kept rows items (nestings_of rows items n) n
-      same = kept_agree n _ _ (j.nested good)
+      same = kept_agree n _ _ before.nested
 
-      last_bad : bad ≡ true → rows_fault rows items 0 (suc n) [] ≡ bad_row n
+      pub bad_last : kept rows items ns n ≡ false → rows_fault rows items 0 m [] ≡ bad_row n
       unfolding then_row choose
-      last_bad b = rw (rows_more n (j.takes good), sym same ∙ last.refuses b)
+      bad_last e = rw (← more, rows_more n before.sound, sym same ∙ e)
 
-      last_sound : bad ≡ false → rows_fault rows items 0 (suc n) [] ≡ sound
-      unfolding then_row choose
-      last_sound b = rw (rows_more n (j.takes good), sym same ∙ (last.takes b).0)
+      module _ (few : n < 256) {deep : ℕ} (in_row : (kept rows items ns n ≡ true) × (row_nesting rows items ns n ≡ deep)) where
+        last : kept rows items ns n ≡ true
+        last = in_row.0
 
-      sound_last : bad ≡ false → row_sound rows items n ≡ true
-      sound_last b = given_inv _ _ (last.takes b).0 λ s _. s
+        last_sound : row_sound rows items n ≡ true
+        last_sound = given_inv _ _ last λ s _. s
 
-      sound_more : bad ≡ false → SoundBelow rows items (suc n)
-      sound_more b k h =
-          cases_lt k n
-          (λ _ l. j.below good k l)
-          (λ _ l. let e : k ≡ n = omega arith in rw e (sound_last b))
+        all_sound : rows_fault rows items 0 (suc n) [] ≡ sound
+        unfolding then_row choose
+        all_sound = rw (rows_more n before.sound, sym same ∙ last)
 
-      nested_more : bad ≡ false → (k : ℕ) → k < suc n → get_or ms k 0 ≡ get_or (nestings_of rows items (suc n)) k 0
-      nested_more b k h =
-          rw (last.takes b).1
-          (cases_lt k n
-          (λ _ l.
-          get_or-set_other ns n k _ 0 (λ e. omega arith) ∙ j.nested good k l
-          ∙ nestings_at rows items n k l ∙ sym (nestings_at rows items (suc n) k h))
-          (λ _ l.
-          let e : k ≡ n = omega arith in
-          rw e
-          (get_or-set_same ns n _ 0 (rw (j.whole good) few) ∙ nesting_agree n _ _ (j.nested good) (sound_last b)
-          ∙ sym (nestings_at rows items (suc n) n (omega arith)))))
+        sound_more : SoundBelow rows items (suc n)
+        sound_more k h =
+            cases_lt k n
+            (λ _ l. before.below k l)
+            (λ _ l. let e : k ≡ n = omega arith in rw e last_sound)
 
-      whole_more : bad ≡ false → length ms ≡ 256
-      whole_more b = rw (last.takes b).1 (length-set ns n _ ∙ j.whole good)
+        nested_more : (k : ℕ) → k < suc n → get_or (set ns n deep) k 0 ≡ get_or (nestings_of rows items (suc n)) k 0
+        nested_more k h =
+            rw (← in_row.1)
+            (cases_lt k n
+            (λ _ l.
+            get_or-set_other ns n k _ 0 (λ e. omega arith) ∙ before.nested k l
+            ∙ nestings_at rows items n k l ∙ sym (nestings_at rows items (suc n) k h))
+            (λ _ l.
+            let e : k ≡ n = omega arith in
+            rw e
+            (get_or-set_same ns n _ 0 (rw before.whole few) ∙ nesting_agree n _ _ before.nested last_sound
+            ∙ sym (nestings_at rows items (suc n) n (omega arith)))))
 
-      pub judged_row : {row : ℕ} → row ≡ n → Judges rows items m ms (record { bad = bad; row = row })
-      judged_row is = rw (← more, is) (record {
-        refuses = last_bad;
-        takes = last_sound;
-        below = sound_more;
-        whole = whole_more;
-        nested = nested_more;
-      })
+        pub judged_more : SoundRows rows items m (set ns n deep)
+        judged_more = rw (← more) (record {
+          sound = all_sound;
+          below = sound_more;
+          whole = length-set ns n _ ∙ before.whole;
+          nested = nested_more;
+        })

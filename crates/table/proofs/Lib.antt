@@ -1,9 +1,5 @@
-pub mod Steps
 pub mod Loops
 pub mod BoundTests
-pub mod RuleTests
 pub mod Halving
-pub mod Items
 pub mod Nested
 pub mod Judging
-pub mod Faults

@@ -1,6 +1,9 @@
 -- What the code relies on of rows and items, and the tests of TableCheck that stand inside a rule, under names.
 -- Assumes nothing.
-use Rattle.std.specs.Prelude.{◌≡◌, Bool, true, cond, not, ◌&&◌, ◌||◌, List, ℕ, ◌+◌, ◌<◌, ltb, leb, eqb}
+use Rattle.std.specs.Prelude.{Option, MatchOption, ◌≡◌, Bool, true, cond, not, ◌&&◌, ◌||◌, List, ℕ, ◌+◌, ◌<◌, ◌≤◌, ltb, leb, eqb}
+use Rattle.std.specs.declared.cmp.Ordering.{Ordering}
+use Rattle.std.specs.declared.cmp.Ordering.TheVariants.{Equal}
+use Rattle.std.specs.Ordering.{ordering_index}
 use Rattle.x696.specs.Integer.{has_lower, has_upper, rank, is_unsigned}
 use Rattle.x696.specs.Table.{enumerated_number}
 use Rattle.x696.specs.TableFault.{row_sound}
@@ -24,3 +27,13 @@ sizes_ordered f a b = cond (has_upper f) (leb a b) (eqb b 0)
 -- the rows below one keep their rules
 abbrev pub SoundBelow : (rows items : List ℕ) → (row : ℕ) → Type 0
 SoundBelow rows items r = (k : ℕ) → k < r → row_sound rows items k ≡ true
+
+-- how each of n places compares with what is sought: first those that are less, then equal, then greater
+abbrev pub Rises : (order : ℕ → Ordering) → (n : ℕ) → Type 0
+Rises order n = (i j : ℕ) → i ≤ j → j < n → ordering_index (order i) ≤ ordering_index (order j)
+
+-- a place that compares equal, or none does, where the calls give the order of the places, and it rises
+abbrev pub FindsBy : (gives : ℕ → Ordering → Type 0) → (n : ℕ) → Option ℕ → Type 0
+FindsBy gives n r =
+    (order : ℕ → Ordering) → ((i : ℕ) (o : Ordering) → gives i o → o ≡ order i) → Rises order n
+    → MatchOption r ((i : ℕ) → i < n → order i ≡ Equal → ⊥) (λ i. (i < n) × (order i ≡ Equal))

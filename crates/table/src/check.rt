@@ -5,7 +5,7 @@ ghost use Rattle.x696.specs.Operations.{check as checked};
 ghost use Rattle.table.specs.Replies.{as_reply};
 ghost use Rattle.table.specs.Judged.{as_fault, table_refusal};
 
-use crate::nestings::{Judged, judge_rows};
+use crate::nestings::judge_rows;
 use crate::reply::{Reply, done};
 use crate::words::{items_in, rows_in};
 use octets::faults::{Cause, Part, Refusal};
@@ -29,26 +29,19 @@ impl From<TableFault> for Refusal {
 }
 
 // Whole rows, 1 to 256; whole items, 0 to 1,024.
+#[tactic(auto, unfolding(x696::specs::TableFault::sizes_sound, x696::specs::TableCheck::given, x696::specs::Outcome::choose))]
 fn sizes_sound(rows: &[u64], items: &[u64]) -> bool
     ensures { result ≡ sizes_sound rows.now items.now }
 {
-    if rows.len() % 6 != 0 {
-        return false;
-    }
-    if rows_in(rows) == 0 {
-        return false;
-    }
-    let many = 256 < rows_in(rows);
-    if many {
-        return false;
-    }
-    if items.len() % 3 != 0 {
-        return false;
-    }
-    items_in(items) <= 1024
+    rows.len() % 6 == 0
+        && rows_in(rows) != 0
+        && rows_in(rows) <= 256
+        && items.len() % 3 == 0
+        && items_in(items) <= 1024
 }
 
 // The first fault of a table: its sizes, then its first bad row.
+#[tactic(auto, unfolding(crate::specs::Judged::as_fault, x696::specs::TableFault::table_fault, x696::specs::TableFault::sizes_sound, x696::specs::TableCheck::given, x696::specs::Outcome::choose))]
 pub fn judge(rows: &[u64], items: &[u64]) -> Result<(), TableFault>
     ensures { result ≡ as_fault (table_fault rows.now items.now) }
 {
@@ -56,15 +49,15 @@ pub fn judge(rows: &[u64], items: &[u64]) -> Result<(), TableFault>
         return Err(TableFault::Size);
     }
     let mut nestings = [0u8; 256];
-    let judged = judge_rows(rows, items, rows_in(rows), &mut nestings);
-    if judged.bad {
-        return Err(TableFault::Row(judged.row));
+    match judge_rows(rows, items, rows_in(rows), &mut nestings) {
+        Ok(()) => Ok(()),
+        Err(row) => Err(TableFault::Row(row)),
     }
-    Ok(())
 }
 
 // Check a table: 1 TABLE SIZE, 2 TABLE ROW at the first row that breaks a rule, or 0. It asks nothing of its caller.
 // Ruled out, for instance: a check that refuses every table, and one that names a later bad row.
+#[tactic(auto, unfolding(crate::specs::Judged::as_fault, x696::specs::Operations::check, x696::specs::Operations::check_reply))]
 pub fn check(rows: &[u64], items: &[u64]) -> Reply
     ensures { result ≡ as_reply (checked rows.now items.now) }
 {

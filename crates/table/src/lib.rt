@@ -8,4 +8,5 @@ pub mod nestings;
 pub mod numbers;
 pub mod reply;
 pub mod rules;
+pub mod search;
 pub mod words;

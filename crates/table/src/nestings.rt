@@ -1,144 +1,91 @@
 // "A function works out a row's nesting from its items' smaller rows, the row number falling" (document 01): each row once, so that
 // rows which share rows cost no more than rows times items.
-ghost use Rattle.std.specs.Prelude.{◌≡◌, true, ℕ, ◌+◌, ◌*◌, ◌/◌, ◌<◌, ◌≤◌, length, get_or};
+ghost use Rattle.std.specs.Prelude.{◌≡◌, true, ℕ, ◌+◌, ◌*◌, ◌/◌, ◌<◌, ◌≤◌, [], length, get_or, IfOk, IfErr};
 ghost use Rattle.x696.specs.Table.{row_width, item_width, item_word};
 ghost use Rattle.x696.specs.TableCheck.{greatest};
-ghost use Rattle.x696.specs.TableFault.{row_sound, row_nesting};
-ghost use Rattle.table.specs.Judged.{other_sound, JudgesRow, Judges};
+ghost use Rattle.x696.specs.TableFault.{bad_row, row_sound, row_nesting, rows_fault};
+ghost use Rattle.table.specs.Judged.{judged_row, SoundRows};
 ghost use Rattle.table.specs.Orders.{SoundBelow};
 
 use crate::groups::{choice_sound, sequence_of_sound, sequence_sound};
 use crate::rules::{enumerated_sound, integer_sound, no_bounds, no_range, string_sound};
 use crate::words::{ALTERNATIVE_ROW, COMPONENT_ROW, item_word, row_count, row_first, row_kind};
 
-// The rows judged so far: the first bad one, if `bad`.
-#[derive(Clone, Copy)]
-pub struct Judged {
-    pub bad: bool,
-    pub row: usize,
-}
-
 // The rules of a row but for its nesting, where the smaller rows keep theirs.
+#[tactic(auto, unfolding(x696::specs::TableFault::row_sound, x696::specs::TableCheck::given, x696::specs::Outcome::choose))]
 fn row_sound(rows: &[u64], items: &[u64], row: usize) -> bool
     requires { (row < length rows.now / row_width) × SoundBelow rows.now items.now row }
     ensures { result ≡ row_sound rows.now items.now row }
 {
-    let kind = row_kind(rows, row);
-    if kind == 2 {
-        return integer_sound(rows, items, row);
+    match row_kind(rows, row) {
+        1 | 4..=6 => no_bounds(rows, items, row) && no_range(rows, items, row),
+        2 => integer_sound(rows, items, row),
+        3 => enumerated_sound(rows, items, row),
+        7..=9 => string_sound(rows, items, row),
+        10 => sequence_sound(rows, items, row),
+        11 => sequence_of_sound(rows, items, row),
+        12 => choice_sound(rows, items, row),
+        _ => false,
     }
-    if kind == 3 {
-        return enumerated_sound(rows, items, row);
-    }
-    if kind == 10 {
-        return sequence_sound(rows, items, row);
-    }
-    if kind == 11 {
-        return sequence_of_sound(rows, items, row);
-    }
-    if kind == 12 {
-        return choice_sound(rows, items, row);
-    }
-    other_sound(rows, items, row, kind)
-}
-
-// Kinds 7 to 9, and those with no words of their own: 1 and 4 to 6.
-fn other_sound(rows: &[u64], items: &[u64], row: usize, kind: u64) -> bool
-    requires { row < length rows.now / row_width }
-    ensures { result ≡ other_sound rows.now items.now row kind }
-{
-    if kind == 0 {
-        return false;
-    }
-    if 10 <= kind {
-        return false;
-    }
-    if 7 <= kind {
-        return string_sound(rows, items, row);
-    }
-    if !no_bounds(rows, items, row) {
-        return false;
-    }
-    no_range(rows, items, row)
-}
-
-fn wide(x: u8) -> u64
-    ensures { (result ≡ x) × (result < 256) }
-{
-    x as u64
-}
-
-// The nesting of row k, worked out before.
-fn nesting_at(nestings: &[u8; 256], k: usize) -> u64
-    requires { k < 256 }
-    ensures { (result ≡ get_or nestings.now k 0) × (result < 256) }
-{
-    wide(nestings[k])
 }
 
 // The greatest nesting among the rows that n items name in word j.
-fn greatest_nesting(items: &[u64], first: usize, n: usize, j: usize, nestings: &[u8; 256]) -> u64
-    requires { (j < item_width) × (first + n ≤ length items.now / item_width) × ((i : ℕ) → i < n → item_word items.now (first + i) j < 256) }
-    ensures { (result ≡ greatest (λ i. get_or nestings.now (item_word items.now i j) 0) first n) × (result < 256) }
+fn greatest_nesting(items: &[u64], first: usize, n: usize, j: usize, nestings: &[u8; 256]) -> u8
+    requires { (j < item_width) × (first + n ≤ length items.now / item_width) × ((i : ℕ) → first ≤ i → i < first + n → item_word items.now i j < 256) }
+    ensures { result ≡ greatest (λ i. get_or nestings.now (item_word items.now i j) 0) first n }
 {
-    let mut most = 0;
-    let mut i = n;
-    while 0 < i {
-        i -= 1;
-        let deep = nesting_at(nestings, item_word(items, first + i, j) as usize);
-        if most < deep {
-            most = deep;
-        }
-    }
-    most
+    (first..first + n)
+        .map(|i| nestings[item_word(items, i, j) as usize])
+        .max()
+        .unwrap_or(0)
 }
 
 // 1 for a kind without components, else one more than the greatest among its items' rows.
+#[tactic(auto, unfolding(x696::specs::TableFault::row_nesting, x696::specs::Outcome::choose))]
 fn row_nesting(rows: &[u64], items: &[u64], row: usize, nestings: &[u8; 256]) -> u64
     requires { (row < length rows.now / row_width) × (row < 256) × (row_sound rows.now items.now row ≡ true) }
     ensures { result ≡ row_nesting rows.now items.now nestings.now row }
 {
-    let kind = row_kind(rows, row);
-    if kind < 10 {
-        return 1;
-    }
     let first = row_first(rows, row) as usize;
     let n = row_count(rows, row) as usize;
-    if kind == 12 {
-        return greatest_nesting(items, first, n, ALTERNATIVE_ROW, nestings) + 1;
+    match row_kind(rows, row) {
+        10 | 11 => u64::from(greatest_nesting(items, first, n, COMPONENT_ROW, nestings)) + 1,
+        12 => u64::from(greatest_nesting(items, first, n, ALTERNATIVE_ROW, nestings)) + 1,
+        _ => 1,
     }
-    greatest_nesting(items, first, n, COMPONENT_ROW, nestings) + 1
 }
 
-// Whether row `row` is bad, where the rows before it are sound and have these nestings; its own is stored if not.
-fn judge_row(rows: &[u64], items: &[u64], row: usize, nestings: &mut [u8; 256]) -> bool
+// The nesting of row `row`, where the rows before it are sound and have these nestings; none if it breaks a rule.
+#[tactic(auto, unfolding(x696::specs::TableCheck::given, x696::specs::Outcome::choose))]
+fn judge_row(rows: &[u64], items: &[u64], row: usize, nestings: &[u8; 256]) -> Option<u8>
     requires { (row < length rows.now / row_width) × (row < 256) × SoundBelow rows.now items.now row }
-    ensures { JudgesRow rows.now items.now row nestings.old nestings.new result }
+    ensures { result ≡ judged_row rows.now items.now nestings.now row }
 {
     if !row_sound(rows, items, row) {
-        return true;
+        return None;
     }
     let deep = row_nesting(rows, items, row, nestings);
     let too_deep = 16 < deep;
-    if too_deep {
-        return true;
-    }
-    nestings[row] = deep as u8;
-    false
+    if too_deep { None } else { Some(deep as u8) }
 }
 
-// The first n rows judged, each once, the row number falling; the nestings of those that are sound are stored.
-pub fn judge_rows(rows: &[u64], items: &[u64], n: usize, nestings: &mut [u8; 256]) -> Judged
+// The first n rows judged, each once: their nestings are stored, or the first bad row is named. Not a `for` over 0..n: document 01
+// names the form, a function with the row number falling.
+pub fn judge_rows(
+    rows: &[u64],
+    items: &[u64],
+    n: usize,
+    nestings: &mut [u8; 256],
+) -> Result<(), usize>
     requires { (n ≤ length rows.now / row_width) × (n ≤ 256) × (length nestings.old ≡ 256) }
-    ensures { Judges rows.now items.now n nestings.new result }
+    ensures ok { IfOk result (λ _. SoundRows rows.now items.now n nestings.new) }
+    ensures err { IfErr result (λ row. rows_fault rows.now items.now 0 n [] ≡ bad_row row) }
 {
     if n == 0 {
-        return Judged { bad: false, row: 0 };
+        return Ok(());
     }
-    let before = judge_rows(rows, items, n - 1, nestings);
-    if before.bad {
-        return before;
-    }
-    let bad = judge_row(rows, items, n - 1, nestings);
-    Judged { bad, row: n - 1 }
+    let row = n - 1;
+    judge_rows(rows, items, row, nestings)?;
+    nestings[row] = judge_row(rows, items, row, nestings).ok_or(row)?;
+    Ok(())
 }

@@ -4,6 +4,7 @@ ghost use Rattle.x696.specs.Enumerated.{listed};
 ghost use Rattle.x696.specs.Table.{item_width, numbers_from};
 ghost use Rattle.table.specs.Orders.{Ascends};
 
+use crate::search::find_by;
 use crate::words::enumerated_number;
 use octets::numbers::rank_of;
 
@@ -13,19 +14,8 @@ pub fn is_listed(items: &[u64], first: usize, n: usize, w: u64) -> bool
     ensures { result ≡ listed w (numbers_from items.now first n) }
 {
     let goal = rank_of(w);
-    let mut low = 0;
-    let mut high = n;
-    while low < high {
-        let mid = low + (high - low) / 2;
-        let at = rank_of(enumerated_number(items, first + mid));
-        if at == goal {
-            return true;
-        }
-        if at < goal {
-            low = mid + 1;
-        } else {
-            high = mid;
-        }
-    }
-    false
+    find_by(n, |i| {
+        rank_of(enumerated_number(items, first + i)).cmp(&goal)
+    })
+    .is_some()
 }

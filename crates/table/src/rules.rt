@@ -12,51 +12,39 @@ use crate::words::{
 use octets::numbers::rank_of;
 
 // Flags, A and B are 0.
+#[tactic(auto, unfolding(x696::specs::TableCheck::no_bounds))]
 pub fn no_bounds(rows: &[u64], items: &[u64], row: usize) -> bool
     requires { row < length rows.now / row_width }
     ensures { result ≡ no_bounds rows.now items.now row }
 {
-    if row_flags(rows, row) != 0 {
-        return false;
-    }
-    if row_a(rows, row) != 0 {
-        return false;
-    }
-    row_b(rows, row) == 0
+    row_flags(rows, row) == 0 && row_a(rows, row) == 0 && row_b(rows, row) == 0
 }
 
 // First item and item count are 0.
+#[tactic(auto, unfolding(x696::specs::TableCheck::no_range))]
 pub fn no_range(rows: &[u64], items: &[u64], row: usize) -> bool
     requires { row < length rows.now / row_width }
     ensures { result ≡ no_range rows.now items.now row }
 {
-    if row_first(rows, row) != 0 {
-        return false;
-    }
-    row_count(rows, row) == 0
+    row_first(rows, row) == 0 && row_count(rows, row) == 0
 }
 
 // The row's items lie inside the item list. The sum of first and count is not formed: it might wrap.
+#[tactic(auto, unfolding(x696::specs::TableCheck::range_inside))]
 pub fn range_inside(rows: &[u64], items: &[u64], row: usize) -> bool
     requires { row < length rows.now / row_width }
     ensures { result ≡ range_inside rows.now items.now row }
 {
     let n = items_in(items) as u64;
     let first = row_first(rows, row);
-    if n < first {
-        return false;
-    }
-    row_count(rows, row) <= n - first
+    first <= n && row_count(rows, row) <= n - first
 }
 
 // A at most B, as numbers, where both are present.
 fn bounds_ordered(flags: u64, a: u64, b: u64) -> bool
     ensures { result ≡ bounds_ordered flags a b }
 {
-    if !has_lower(flags) {
-        return true;
-    }
-    if !has_upper(flags) {
+    if !has_lower(flags) || !has_upper(flags) {
         return true;
     }
     let unsigned = is_unsigned(flags, a);
@@ -67,14 +55,8 @@ fn bounds_ordered(flags: u64, a: u64, b: u64) -> bool
     }
 }
 
-// An unset bound is 0.
-fn is_set_or_zero(present: bool, bound: u64) -> bool
-    ensures { result ≡ present || eqb bound 0 }
-{
-    if present { true } else { bound == 0 }
-}
-
 // Kind 2.
+#[tactic(auto, unfolding(x696::specs::TableCheck::integer_sound, x696::specs::TableCheck::given, x696::specs::Outcome::choose))]
 pub fn integer_sound(rows: &[u64], items: &[u64], row: usize) -> bool
     requires { row < length rows.now / row_width }
     ensures { result ≡ integer_sound rows.now items.now row }
@@ -82,29 +64,15 @@ pub fn integer_sound(rows: &[u64], items: &[u64], row: usize) -> bool
     let flags = row_flags(rows, row);
     let a = row_a(rows, row);
     let b = row_b(rows, row);
-    if 4 <= flags {
-        return false;
-    }
-    if !is_set_or_zero(has_lower(flags), a) {
-        return false;
-    }
-    if !is_set_or_zero(has_upper(flags), b) {
-        return false;
-    }
-    if !bounds_ordered(flags, a, b) {
-        return false;
-    }
-    no_range(rows, items, row)
-}
-
-// Flags 0 or 2.
-fn string_flags(flags: u64) -> bool
-    ensures { result ≡ eqb flags 0 || eqb flags 2 }
-{
-    if flags == 0 { true } else { flags == 2 }
+    flags < 4
+        && (has_lower(flags) || a == 0)
+        && (has_upper(flags) || b == 0)
+        && bounds_ordered(flags, a, b)
+        && no_range(rows, items, row)
 }
 
 // Kinds 7 to 9.
+#[tactic(auto, unfolding(x696::specs::TableCheck::string_sound, x696::specs::TableCheck::given, x696::specs::Outcome::choose))]
 pub fn string_sound(rows: &[u64], items: &[u64], row: usize) -> bool
     requires { row < length rows.now / row_width }
     ensures { result ≡ string_sound rows.now items.now row }
@@ -112,19 +80,11 @@ pub fn string_sound(rows: &[u64], items: &[u64], row: usize) -> bool
     let flags = row_flags(rows, row);
     let a = row_a(rows, row);
     let b = row_b(rows, row);
-    if !string_flags(flags) {
-        return false;
-    }
-    if 65535 < a {
-        return false;
-    }
-    if 65535 < b {
-        return false;
-    }
-    if !sizes_ordered(flags, a, b) {
-        return false;
-    }
-    no_range(rows, items, row)
+    (flags == 0 || flags == 2)
+        && a <= 65535
+        && b <= 65535
+        && sizes_ordered(flags, a, b)
+        && no_range(rows, items, row)
 }
 
 // A at most B where B is present; else B is 0.
@@ -135,28 +95,12 @@ fn sizes_ordered(flags: u64, a: u64, b: u64) -> bool
 }
 
 // The words that an ENUMERATED's and a SEQUENCE OF's item do not use are 0.
+#[tactic(auto, unfolding(x696::specs::Table::rest_zero))]
 pub fn rest_zero(items: &[u64], i: usize) -> bool
     requires { i < length items.now / item_width }
     ensures { result ≡ rest_zero items.now i }
 {
-    if component_mark(items, i) != 0 {
-        return false;
-    }
-    component_default(items, i) == 0
-}
-
-fn all_rest_zero(items: &[u64], first: usize, n: usize) -> bool
-    requires { first + n ≤ length items.now / item_width }
-    ensures { result ≡ every (λ i. rest_zero items.now i) first n }
-{
-    let mut i = 0;
-    while i < n {
-        if !rest_zero(items, first + i) {
-            return false;
-        }
-        i += 1;
-    }
-    true
+    component_mark(items, i) == 0 && component_default(items, i) == 0
 }
 
 // The signed order of two items' numbers.
@@ -167,39 +111,20 @@ fn rank_before(items: &[u64], i: usize, j: usize) -> bool
     rank_of(enumerated_number(items, i)) < rank_of(enumerated_number(items, j))
 }
 
-// Strictly ascending as signed numbers.
-fn numbers_ascend(items: &[u64], first: usize, n: usize) -> bool
-    requires { first + n ≤ length items.now / item_width }
-    ensures { result ≡ ascending (λ i j. rank_before items.now i j) first n }
-{
-    let mut i = 1;
-    while i < n {
-        if !rank_before(items, first + i - 1, first + i) {
-            return false;
-        }
-        i += 1;
-    }
-    true
-}
-
 // Kind 3.
+#[tactic(auto, unfolding(x696::specs::TableCheck::range_inside, x696::specs::TableCheck::enumerated_sound, x696::specs::TableCheck::given, x696::specs::Outcome::choose))]
 pub fn enumerated_sound(rows: &[u64], items: &[u64], row: usize) -> bool
     requires { row < length rows.now / row_width }
     ensures { result ≡ enumerated_sound rows.now items.now row }
 {
-    if !no_bounds(rows, items, row) {
-        return false;
-    }
-    if row_count(rows, row) == 0 {
-        return false;
-    }
-    if !range_inside(rows, items, row) {
+    if !no_bounds(rows, items, row)
+        || row_count(rows, row) == 0
+        || !range_inside(rows, items, row)
+    {
         return false;
     }
     let first = row_first(rows, row) as usize;
     let n = row_count(rows, row) as usize;
-    if !all_rest_zero(items, first, n) {
-        return false;
-    }
-    numbers_ascend(items, first, n)
+    (first..first + n).all(|i| rest_zero(items, i))
+        && (first + 1..first + n).all(|i| rank_before(items, i - 1, i))
 }

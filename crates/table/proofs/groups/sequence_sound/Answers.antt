@@ -1,28 +1,14 @@
--- A SEQUENCE's row is tested as `sequence_sound` says: no loop.
--- Assumes nothing.
-use Rattle.x696.specs.TableCheck.{sequence_sound}
-use Rattle.table.proofs.Steps.{fails, holds, in_range, given_stop, given_on}
+-- Kind 10: what `all` finds of the range of the items is `every` of them. Assumes nothing.
+use Rattle.std.proofs.Common.{◌≡◌, arith, rules, tests}
+use Rattle.std.proofs.lemmas.Grind.{common_steps}
+use Rattle.x696.specs.Outcome.{choose}
+use Rattle.x696.specs.TableCheck.{given, every, component_sound, sequence_sound}
+use Rattle.table.proofs.Loops.{every_of}
 use Rattle.table.proofs.groups.sequence_sound.Goals as goal
 
-pub returns-then-not-no_bounds : goal.returns-then-not-no_bounds
-unfolding sequence_sound
-returns-then-not-no_bounds c = given_stop _ (fails c.no_bounds.ensures c.if-not-no_bounds.true)
-
-pub returns-then-not-range_inside : goal.returns-then-not-range_inside
-unfolding sequence_sound
-returns-then-not-range_inside c =
-    given_on _ (holds c.no_bounds.ensures c.if-not-no_bounds.false)
-    (given_stop _ (fails c.range_inside.ensures c.if-not-range_inside.true))
-
-pub components_sound-requires : goal.components_sound-requires
-components_sound-requires c =
-    let range = in_range _ _ _ c.range_inside.ensures c.if-not-range_inside.false c.row_first.ensures
-    c.row_count.ensures in
-    (c.requires.0, range, c.requires.1)
-
 pub returns : goal.returns
-unfolding sequence_sound
+unfolding sequence_sound given choose
 returns c =
-    given_on _ (holds c.no_bounds.ensures c.if-not-no_bounds.false)
-    (given_on _ (holds c.range_inside.ensures c.if-not-range_inside.false)
-    (rw (← c.row_first.ensures, ← c.row_count.ensures) c.components_sound.ensures))
+    let each : c.all.result ≡ every (λ i. component_sound c.args.rows.now c.args.items.now c.args.row i) c.row_first-first.result c.row_count-n.result =
+    every_of _ _ _ (cc) c.all.ensures.ran (λ x b q k. search (rules, tests)) in
+    grind (arith, common_steps)

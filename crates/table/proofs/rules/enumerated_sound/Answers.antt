@@ -1,39 +1,28 @@
--- The tests of kind 3 in their order. Assumes nothing.
-use Rattle.table.proofs.RuleTests.{inside_fits, enumerated_fails, enumerated_none, enumerated_out, enumerated_used, enumerated_tells}
+-- Kind 3: what `all` finds of the range of the items is `every` of them, and `ascending`. Assumes nothing.
+use Rattle.std.proofs.Common.{◌≡◌, arith, rules, tests}
+use Rattle.std.proofs.lemmas.Grind.{common_steps}
+use Rattle.x696.specs.Outcome.{choose}
+use Rattle.x696.specs.Table.{rest_zero}
+use Rattle.x696.specs.TableCheck.{given, every, ascending, enumerated_sound}
+use Rattle.table.specs.Orders.{rank_before}
+use Rattle.table.proofs.Loops.{every_of, ascending_of}
 use Rattle.table.proofs.rules.enumerated_sound.Goals as goal
 
-pub returns-then-not-no_bounds : goal.returns-then-not-no_bounds
-returns-then-not-no_bounds c = enumerated_fails _ _ _ c.no_bounds.ensures c.if-not-no_bounds.true
+pub returns-then-all : goal.returns-then-all
+unfolding enumerated_sound given choose
+returns-then-all c =
+    let items = c.args.items.now in
+    let first = c.row_first-first.result in
+    let n = c.row_count-n.result in
+    let rest : c.all.result ≡ every (λ i. rest_zero items i) first n = every_of _ _ _ (cc) c.all.ensures.ran (λ x b q k. search (rules, tests)) in
+    let up : c.all-then-all.result ≡ ascending (λ i j. rank_before items i j) first n = ascending_of _ _ _ (cc) c.all-then-all.ensures.ran (λ x b q k. search (rules, tests)) in
+    grind (arith, common_steps)
 
-pub returns-then-row_count-eq0 : goal.returns-then-row_count-eq0
-returns-then-row_count-eq0 c =
-    enumerated_none _ _ _ c.no_bounds.ensures c.if-not-no_bounds.false c.row_count.ensures
-    c.if-row_count-eq0.true
-
-pub returns-then-not-range_inside : goal.returns-then-not-range_inside
-returns-then-not-range_inside c =
-    enumerated_out _ _ _ c.no_bounds.ensures c.if-not-no_bounds.false c.row_count.ensures
-    c.if-row_count-eq0.false c.range_inside.ensures c.if-not-range_inside.true
-
-pub all_rest_zero-requires : goal.all_rest_zero-requires
-all_rest_zero-requires c =
-    rw (c.row_first-first.ensures, c.row_count-n.ensures)
-    (inside_fits _ _ _ c.range_inside.ensures c.if-not-range_inside.false)
-
-pub returns-then-not-all_rest_zero : goal.returns-then-not-all_rest_zero
-returns-then-not-all_rest_zero c =
-    enumerated_used _ _ _ c.no_bounds.ensures c.if-not-no_bounds.false c.row_count.ensures
-    c.if-row_count-eq0.false c.range_inside.ensures c.if-not-range_inside.false c.row_first-first.ensures
-    c.row_count-n.ensures c.all_rest_zero.ensures c.if-not-all_rest_zero.true
-
-pub numbers_ascend-requires : goal.numbers_ascend-requires
-numbers_ascend-requires c =
-    rw (c.row_first-first.ensures, c.row_count-n.ensures)
-    (inside_fits _ _ _ c.range_inside.ensures c.if-not-range_inside.false)
-
-pub returns : goal.returns
-returns c =
-    enumerated_tells _ _ _ c.no_bounds.ensures c.if-not-no_bounds.false c.row_count.ensures
-    c.if-row_count-eq0.false c.range_inside.ensures c.if-not-range_inside.false c.row_first-first.ensures
-    c.row_count-n.ensures c.all_rest_zero.ensures c.if-not-all_rest_zero.false
-    c.numbers_ascend.ensures
+pub returns-else-all : goal.returns-else-all
+unfolding enumerated_sound given choose
+returns-else-all c =
+    let items = c.args.items.now in
+    let first = c.row_first-first.result in
+    let n = c.row_count-n.result in
+    let rest : c.all.result ≡ every (λ i. rest_zero items i) first n = every_of _ _ _ (cc) c.all.ensures.ran (λ x b q k. search (rules, tests)) in
+    grind (arith, common_steps)
