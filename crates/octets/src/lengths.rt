@@ -8,7 +8,7 @@ use crate::answers::{Fault, Piece, ReadRun};
 use crate::fewest::fewest_unsigned;
 use crate::numbers::{is_fewest, put_number, read_number};
 use crate::units::Octets;
-use crate::words::{octet, put_octet};
+use crate::words::{octet, put};
 
 fn found(start: usize, n: u64) -> ReadRun
     ensures { result ≡ ReadRun.Got (piece start n) }
@@ -89,11 +89,11 @@ pub fn put_length(out: &mut [u8], to: usize, n: Octets) -> usize
     let m = n.0;
     let short = m < 128;
     if short {
-        put_octet(out, to, (m % 256) as u8);
+        put(out, to, (m % 256) as u8);
         return to + 1;
     }
     let k = fewest_unsigned(m);
-    put_octet(out, to, (128 + k) as u8);
+    put(out, to, (128 + k) as u8);
     put_number(out, to + 1, k, m);
     to + 1 + k
 }

@@ -5,7 +5,7 @@ ghost use Rattle.x696.specs.Digits.{digits, from_digits};
 ghost use Rattle.x696.specs.Fewest.{word_in, is_fewest, is_fewest_signed};
 ghost use Rattle.x696.specs.Integer.{rank};
 
-use crate::words::{octet, put_octet};
+use crate::words::{octet, put};
 
 // The number that the k octets from `start` on hold.
 pub fn read_number(msg: &[u8], start: usize, k: usize) -> u64
@@ -107,7 +107,7 @@ fn put_digits(out: &mut [u8], to: usize, k: usize, w: u64)
     let mut i = k;
     while 0 < i {
         i -= 1;
-        put_octet(out, to + i, (v % 256) as u8);
+        put(out, to + i, (v % 256) as u8);
         v = v / 256;
     }
 }

@@ -4,7 +4,7 @@ ghost use Rattle.std.proofs.lemmas.List.Edits.{sets};
 ghost use Rattle.x696.specs.Bits.{bit_octets, unused_bits, low_bits_clear};
 ghost use Rattle.octets.specs.Presence.{bit_at, with_bit};
 
-use crate::words::{octet, put_octet};
+use crate::words::{octet, put};
 
 // 2 ^ (7 - j): the weight of bit j from the top of an octet.
 fn weight(j: usize) -> u64
@@ -49,7 +49,7 @@ pub fn put_zeros(out: &mut [u8], to: usize, n: usize)
 {
     let mut i = 0;
     while i < n {
-        put_octet(out, to + i, 0);
+        put(out, to + i, 0);
         i += 1;
     }
 }
@@ -64,8 +64,8 @@ pub fn put_presence(out: &mut [u8], pre: usize, b: usize, present: bool)
     let o = octet(out, k);
     let bit = o / w % 2 * w;
     if present {
-        put_octet(out, k, ((o - bit + w) % 256) as u8);
+        put(out, k, ((o - bit + w) % 256) as u8);
     } else {
-        put_octet(out, k, ((o - bit) % 256) as u8);
+        put(out, k, ((o - bit) % 256) as u8);
     }
 }

@@ -9,7 +9,7 @@ use crate::fewest::{fewest_signed, fewest_unsigned};
 use crate::lengths::read_run;
 use crate::numbers::{is_fewest, is_fewest_signed, put_number, read_number, sign_extend};
 use crate::units::Occurrences;
-use crate::words::put_octet;
+use crate::words::put;
 
 pub fn found(value: u64, next: usize) -> ReadNumber
     ensures { result ≡ ReadNumber.Got (number value next) }
@@ -100,7 +100,7 @@ pub fn put_unsigned(out: &mut [u8], to: usize, n: u64) -> usize
     ensures { (out.new ≡ sets out.old to (variable_unsigned n)) × (result ≡ to + length (variable_unsigned n)) × (result ≤ to + 9) }
 {
     let k = fewest_unsigned(n);
-    put_octet(out, to, k as u8);
+    put(out, to, k as u8);
     put_number(out, to + 1, k, n);
     to + 1 + k
 }
@@ -119,7 +119,7 @@ pub fn put_signed(out: &mut [u8], to: usize, w: u64) -> usize
     ensures { (out.new ≡ sets out.old to (variable_signed w)) × (result ≡ to + length (variable_signed w)) × (result ≤ to + 9) }
 {
     let k = fewest_signed(w);
-    put_octet(out, to, k as u8);
+    put(out, to, k as u8);
     put_number(out, to + 1, k, w);
     to + 1 + k
 }

@@ -9,21 +9,12 @@ pub fn octet(s: &[u8], i: usize) -> u64
     if i < s.len() { s[i] as u64 } else { 0 }
 }
 
-// Stores w at k if there is room.
-pub fn put_word(out: &mut [u64], k: usize, w: u64)
-    ensures { out.new ≡ set out.old k w }
+// Stores x at k if there is room.
+pub fn put<T: Copy>(out: &mut [T], k: usize, x: T)
+    ensures { out.new ≡ set out.old k x }
 {
     if k < out.len() {
-        out[k] = w;
-    }
-}
-
-// Stores the octet o at k if there is room.
-pub fn put_octet(out: &mut [u8], k: usize, o: u8)
-    ensures { out.new ≡ set out.old k o }
-{
-    if k < out.len() {
-        out[k] = o;
+        out[k] = x;
     }
 }
 

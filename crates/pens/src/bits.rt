@@ -8,7 +8,7 @@ use crate::written::{Head, head_put, head_refused};
 use octets::lengths::put_length;
 use octets::presence::low_bits_clear;
 use octets::units::{Bits, Octets, octets_of, unused_of};
-use octets::words::put_octet;
+use octets::words::put;
 use table::bounds::{is_fixed, is_sized};
 
 // Nothing before contents of a fixed size (13.2), else the determinant of one octet more than they fill, and the
@@ -22,7 +22,7 @@ fn put_bits_head(flags: u64, a: u64, b: u64, size: Bits, to: usize, out: &mut [u
     }
     let filled = octets_of(size);
     let next = put_length(out, to, Octets(filled.0 + 1));
-    put_octet(out, next, unused_of(size) as u8);
+    put(out, next, unused_of(size) as u8);
     next + 1
 }
 

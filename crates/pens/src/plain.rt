@@ -4,7 +4,7 @@ ghost use Rattle.x696.specs.Leaf.{boolean, null};
 ghost use Rattle.pens.specs.Flat.{Numbered};
 
 use crate::written::{Written, number_put, number_refused};
-use octets::words::put_octet;
+use octets::words::put;
 
 pub fn write_boolean(n: u64, to: usize, out: &mut [u8]) -> Written
     requires { to < 2 ^ 40 }
@@ -14,7 +14,7 @@ pub fn write_boolean(n: u64, to: usize, out: &mut [u8]) -> Written
         return number_refused(11);
     }
     // TRUE is FF (31.3)
-    put_octet(out, to, (255 * n) as u8);
+    put(out, to, (255 * n) as u8);
     number_put(to + 1)
 }
 

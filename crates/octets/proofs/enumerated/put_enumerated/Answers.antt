@@ -6,7 +6,7 @@ use Rattle.octets.proofs.enumerated.put_enumerated.Goals as goal
 pub returns-then-w-lt128 : goal.returns-then-w-lt128
 returns-then-w-lt128 c =
     put_enumerated_short _ _ _ _ c.if-w-lt128.true
-    c.put_octet.ensures
+    c.put.ensures
 
 pub returns : goal.returns
 returns c =
@@ -15,4 +15,4 @@ returns c =
     c.put_number.ensures
     c.fewest_signed-k.ensures.0
     c.if-w-lt128.false
-    c.put_octet-2.ensures
+    c.put-2.ensures

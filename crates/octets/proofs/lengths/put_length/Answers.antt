@@ -4,7 +4,7 @@ use Rattle.octets.proofs.Puts.{put_length_long, put_length_short}
 use Rattle.octets.proofs.lengths.put_length.Goals as goal
 
 pub returns-then-short : goal.returns-then-short
-returns-then-short c = put_length_short _ _ _ _ c.if-short.true c.put_octet.ensures
+returns-then-short c = put_length_short _ _ _ _ c.if-short.true c.put.ensures
 
 pub returns : goal.returns
 returns c =
@@ -13,4 +13,4 @@ returns c =
     c.put_number.ensures
     c.fewest_unsigned-k.ensures.0
     c.if-short.false
-    c.put_octet-2.ensures
+    c.put-2.ensures

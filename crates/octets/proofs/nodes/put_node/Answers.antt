@@ -7,4 +7,4 @@ use Rattle.octets.proofs.nodes.put_node.Goals as goal
 pub returns : goal.returns
 returns c =
     let a = c.args in
-    sets_two a.nodes.now _ (a.i * 2) a.kind a.number c.put_word.ensures c.put_word-2.ensures
+    sets_two a.nodes.now _ (a.i * 2) a.kind a.number c.put.ensures c.put-2.ensures

@@ -15,7 +15,7 @@ loop-i-preserved c =
     let l = c.loop-i in
     let a = c.args in (
       search rules,
-      stored_low _ _ a.to l.i l.v (omega arith) c.put_octet.ensures ∙ l.invariant.1,
+      stored_low _ _ a.to l.i l.v (omega arith) c.put.ensures ∙ l.invariant.1,
       search rules,
     )
 

@@ -19,11 +19,11 @@ returns-then-present c =
     let a = c.args in
     put_set a.out.now (a.pre + a.b / 8) _ _ _ _ (omega arith) c.weight-w.ensures.0
     c.octet-o.ensures.0 c.octet-o.ensures.1
-    c.if-present.true c.put_octet.ensures
+    c.if-present.true c.put.ensures
 
 pub returns-else-present : goal.returns-else-present
 returns-else-present c =
     let a = c.args in
     put_clear a.out.now (a.pre + a.b / 8) _ _ _ _ (omega arith) c.weight-w.ensures.0
     c.octet-o.ensures.0 c.octet-o.ensures.1
-    c.if-present.false c.put_octet-else-present.ensures
+    c.if-present.false c.put-else-present.ensures

@@ -8,7 +8,7 @@ pub loop-i-init : goal.loop-i-init
 loop-i-init c = zeroed_start _ _ _
 
 pub loop-i-preserved : goal.loop-i-preserved
-loop-i-preserved c = zeroed_more _ _ _ c.loop-i.invariant c.loop-i-test.true c.put_octet.ensures
+loop-i-preserved c = zeroed_more _ _ _ c.loop-i.invariant c.loop-i-test.true c.put.ensures
 
 pub shape_of-out : goal.shape_of-out
 shape_of-out c = c.loop-i.invariant.kept

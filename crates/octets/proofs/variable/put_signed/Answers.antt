@@ -9,4 +9,4 @@ returns c =
     c.fewest_signed-k.ensures.2
     c.put_number.ensures
     c.fewest_signed-k.ensures.0
-    c.put_octet.ensures
+    c.put.ensures

@@ -10,4 +10,4 @@ returns c =
     bits_counted _ _ _ _ c.is_fixed.ensures c.if-is_fixed.false
     c.octets_of-filled.ensures c.unused_of.ensures
     c.put_length-next.ensures
-    c.put_octet.ensures
+    c.put.ensures
