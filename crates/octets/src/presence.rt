@@ -11,16 +11,7 @@ fn weight(j: usize) -> u64
     requires { j < 8 }
     ensures { (result ≡ 2 ^ (7 - j)) × (result ≤ 128) × (1 ≤ result) }
 {
-    match j {
-        0 => 128,
-        1 => 64,
-        2 => 32,
-        3 => 16,
-        4 => 8,
-        5 => 4,
-        6 => 2,
-        _ => 1,
-    }
+    1 << (7 - j)
 }
 
 // Whether presence bit b of the preamble at `pre` is 1.
@@ -47,10 +38,8 @@ pub fn put_zeros(out: &mut [u8], to: usize, n: usize)
     requires { (to < 2 ^ 48) × (n ≤ 128) }
     ensures { out.new ≡ sets out.old to (replicate n 0) }
 {
-    let mut i = 0;
-    while i < n {
+    for i in 0..n {
         put(out, to + i, 0);
-        i += 1;
     }
 }
 

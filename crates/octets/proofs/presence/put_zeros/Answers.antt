@@ -1,5 +1,5 @@
 -- `put_zeros` meets its contract. Invariant: what is left to store makes of the octets now what was to be stored in all
--- (`Zeroed`). Measure: the octets that are left to store.
+-- (`Zeroed`).
 -- Assumes nothing.
 use Rattle.octets.proofs.Weights.{zeroed_start, zeroed_more, zeroed_all}
 use Rattle.octets.proofs.presence.put_zeros.Goals as goal
