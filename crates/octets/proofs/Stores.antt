@@ -4,7 +4,6 @@ use mathlib.Core.Path.{◌≡◌, refl, sym, ap, ◌∙◌}
 use mathlib.Core.List.{List, [], ◌∷◌, ◌++◌}
 use Prim.Native.Nat.{ℕ, suc, ◌+◌, ◌-◌, ◌<◌, ◌≤◌, min}
 use native.Mathlib.Nat.{add-zero}
-use native.Mathlib.Numerals.{add-one}
 use native.Mathlib.Omega.{arith}
 use lib.ListN.{length, set, take, drop, length-drop}
 use lib.Seq.{sets, sets-eq, set_out, set_comm, take-add, drop-drop, length-take-le}
@@ -42,10 +41,6 @@ sets_comm [] ws l i j h = refl
 sets_comm (v ∷ vs) ws l i j h =
     ap (λ (x : List ℕ). sets x (suc i) vs) (set_sets ws l i j v (omega arith))
     ∙ sets_comm vs ws (set l i v) (suc i) j (omega arith)
-
--- two stores, one after another
-pub sets_two : (l m : List ℕ) {n : List ℕ} (i a b : ℕ) → m ≡ set l i a → n ≡ set m (i + 1) b → n ≡ sets l i (a ∷ b ∷ [])
-sets_two l m i a b e f = f ∙ rw (e, add-one i)
 
 -- ---- a run of octets copied from `f` on to `u` on: k octets more, and all that have room
 pub copied_on : (msg l m : List ℕ) (f u i k : ℕ) → f + i ≤ length msg → m ≡ sets l u (take i (drop f msg))

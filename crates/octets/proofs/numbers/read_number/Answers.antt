@@ -1,7 +1,7 @@
 -- The number of k octets, read big end first.
 -- The loop's invariant: v is the number of the first i octets, below 2 ^ (8 * i).
 -- Assumes nothing.
-use mathlib.Core.Path.{◌≡◌, refl}
+use mathlib.Core.Path.{refl}
 use native.Mathlib.Omega.{arith}
 use Rattle.x696.specs.Digits.{from_digits}
 use Rattle.octets.proofs.BigEnd.{read_more, more_below, below_seven}
@@ -24,9 +24,3 @@ loop-i-preserved c =
     let a = c.args in
     let o = c.octet.ensures in
     (read_more a.msg.now a.start l.i _ _ (omega arith) l.invariant.0 o.0, more_below _ _ l.i l.invariant.1 o.1)
-
-pub returns : goal.returns
-returns c =
-    let l = c.loop-i in
-    let e : l.i ≡ c.args.k = omega arith in
-    rw (← e) l.invariant

@@ -2,17 +2,8 @@
 -- Assumes nothing.
 use Prim.Native.Nat.{◌+◌, ◌/◌}
 use native.Mathlib.Omega.{arith}
-use Rattle.octets.proofs.Weights.{bit_part, put_set, put_clear}
+use Rattle.octets.proofs.Weights.{put_set, put_clear}
 use Rattle.octets.proofs.presence.put_presence.Goals as goal
-
-pub overflow_mul-bit : goal.overflow_mul-bit
-overflow_mul-bit c = omega (arith, bit_part c.octet-o.result c.weight-w.result, c.octet-o.ensures.1)
-
-pub overflow_sub-o : goal.overflow_sub-o
-overflow_sub-o c = bit_part _ _
-
-pub overflow_sub-o-else-present : goal.overflow_sub-o-else-present
-overflow_sub-o-else-present c = bit_part _ _
 
 pub returns-then-present : goal.returns-then-present
 returns-then-present c =
