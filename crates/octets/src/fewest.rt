@@ -10,7 +10,7 @@ pub fn fewest_unsigned(n: u64) -> usize
     top / 8 + 1
 }
 
-// How far a word lies from 0, or from -1 if it is negative.
+// How far a word lies from 0, or from -1 if it is negative. (The library's `unsigned_abs` counts from 0 alone.)
 pub fn magnitude_of(w: u64) -> u64
     ensures { (result ≡ magnitude w) × (result < 0x8000_0000_0000_0000) }
 {

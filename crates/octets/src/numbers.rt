@@ -7,7 +7,8 @@ ghost use Rattle.x696.specs.Integer.{rank};
 
 use crate::words::{octet, put};
 
-// The number that the k octets from `start` on hold.
+// The number that the k octets from `start` on hold. `octet`, though all are there: without its test the loop is
+// unrolled and the readers around it grow, so that validating and decoding small values cost 6 in 100 more.
 pub fn read_number(msg: &[u8], start: usize, k: usize) -> u64
     requires { (k ≤ 8) × (start + k ≤ length msg.now) }
     ensures { (result ≡ from_digits 8 (take k (drop start msg.now))) × (result < 2 ^ (8 * k)) }
@@ -72,7 +73,7 @@ pub fn is_fewest_signed(msg: &[u8], start: usize, k: usize) -> bool
     }
 }
 
-// The k octets of w, big end first, as far as there is room.
+// The k octets of w, big end first, as far as there is room. Over `to..to + k` the turns would cost more.
 fn put_digits(out: &mut [u8], to: usize, k: usize, w: u64)
     requires { (k ≤ 8) × (to < 2 ^ 48) }
     ensures { out.new ≡ sets out.old to (digits 8 k w) }

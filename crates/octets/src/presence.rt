@@ -33,7 +33,7 @@ pub fn low_bits_clear(msg: &[u8], start: usize, n: usize, u: usize) -> bool
     octet(msg, start + n - 1) % weight(7 - u) == 0
 }
 
-// Stores n zero octets, as far as there is room.
+// Stores n zero octets, as far as there is room. `fill` would ask for the part that has room first, and be no plainer.
 pub fn put_zeros(out: &mut [u8], to: usize, n: usize)
     requires { (to < 2 ^ 48) × (n ≤ 128) }
     ensures { out.new ≡ sets out.old to (replicate n 0) }

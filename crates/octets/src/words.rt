@@ -9,7 +9,7 @@ pub fn octet(s: &[u8], i: usize) -> u64
     if i < s.len() { s[i] as u64 } else { 0 }
 }
 
-// Stores x at k if there is room.
+// Stores x at k if there is room. By the index: of what is written through a slice's `get_mut` a proof knows nothing.
 pub fn put<T: Copy>(out: &mut [T], k: usize, x: T)
     ensures { out.new ≡ set out.old k x }
 {
