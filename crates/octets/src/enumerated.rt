@@ -6,7 +6,7 @@ ghost use Rattle.octets.specs.Answers.{NumberAnswer, long_number};
 
 use crate::answers::ReadNumber;
 use crate::fewest::fewest_signed;
-use crate::numbers::put_number;
+use crate::numbers::put_led;
 use crate::variable::{found, refused, signed_in};
 use crate::words::{octet, put};
 
@@ -53,7 +53,5 @@ pub fn put_enumerated(out: &mut [u8], to: usize, w: u64) -> usize
         return to + 1;
     }
     let k = fewest_signed(w);
-    put(out, to, (128 + k) as u8);
-    put_number(out, to + 1, k, w);
-    to + 1 + k
+    put_led(out, to, (128 + k) as u8, k, w)
 }

@@ -6,7 +6,7 @@ ghost use Rattle.octets.specs.Answers.{RunAnswer, piece, fault, long_run};
 
 use crate::answers::{Fault, Piece, ReadRun};
 use crate::fewest::fewest_unsigned;
-use crate::numbers::{is_fewest, put_number, read_number};
+use crate::numbers::{is_fewest, put_led, read_number};
 use crate::units::Octets;
 use crate::words::{octet, put};
 
@@ -93,7 +93,5 @@ pub fn put_length(out: &mut [u8], to: usize, n: Octets) -> usize
         return to + 1;
     }
     let k = fewest_unsigned(m);
-    put(out, to, (128 + k) as u8);
-    put_number(out, to + 1, k, m);
-    to + 1 + k
+    put_led(out, to, (128 + k) as u8, k, m)
 }

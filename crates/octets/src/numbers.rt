@@ -1,5 +1,5 @@
 // Numbers of 1 to 8 octets, big end first, read and written; the signed order of words.
-ghost use Rattle.std.specs.Prelude.{◌≡◌, ◌+◌, ◌*◌, ◌^◌, ◌<◌, ◌≤◌, length, take, drop};
+ghost use Rattle.std.specs.Prelude.{◌≡◌, ◌+◌, ◌*◌, ◌^◌, ◌<◌, ◌≤◌, ◌∷◌, length, take, drop};
 ghost use Rattle.std.proofs.lemmas.List.Edits.{sets};
 ghost use Rattle.x696.specs.Digits.{digits, from_digits};
 ghost use Rattle.x696.specs.Fewest.{word_in, is_fewest, is_fewest_signed};
@@ -94,6 +94,16 @@ pub fn put_number(out: &mut [u8], to: usize, k: usize, w: u64)
         return;
     }
     put_digits(out, to, k, w);
+}
+
+// Stores an octet and behind it the k octets of w, as far as there is room.
+pub(crate) fn put_led(out: &mut [u8], to: usize, lead: u8, k: usize, w: u64) -> usize
+    requires { (k ≤ 8) × (to < 2 ^ 40) }
+    ensures { (out.new ≡ sets out.old to (lead ∷ digits 8 k w)) × (result ≡ to + 1 + k) }
+{
+    put(out, to, lead);
+    put_number(out, to + 1, k, w);
+    to + 1 + k
 }
 
 // Where a word stands in the signed order.

@@ -7,9 +7,8 @@ ghost use Rattle.octets.specs.Answers.{NumberAnswer, QuantityAnswer, number, fau
 use crate::answers::{Fault, Number, Quantity, ReadNumber, ReadQuantity, ReadRun};
 use crate::fewest::{fewest_signed, fewest_unsigned};
 use crate::lengths::read_run;
-use crate::numbers::{is_fewest, is_fewest_signed, put_number, read_number, sign_extend};
+use crate::numbers::{is_fewest, is_fewest_signed, put_led, read_number, sign_extend};
 use crate::units::Occurrences;
-use crate::words::put;
 
 pub fn found(value: u64, next: usize) -> ReadNumber
     ensures { result ≡ ReadNumber.Got (number value next) }
@@ -100,9 +99,7 @@ pub fn put_unsigned(out: &mut [u8], to: usize, n: u64) -> usize
     ensures { (out.new ≡ sets out.old to (variable_unsigned n)) × (result ≡ to + length (variable_unsigned n)) × (result ≤ to + 9) }
 {
     let k = fewest_unsigned(n);
-    put(out, to, k as u8);
-    put_number(out, to + 1, k, n);
-    to + 1 + k
+    put_led(out, to, k as u8, k, n)
 }
 
 // Stores a quantity.
@@ -119,7 +116,5 @@ pub fn put_signed(out: &mut [u8], to: usize, w: u64) -> usize
     ensures { (out.new ≡ sets out.old to (variable_signed w)) × (result ≡ to + length (variable_signed w)) × (result ≤ to + 9) }
 {
     let k = fewest_signed(w);
-    put(out, to, k as u8);
-    put_number(out, to + 1, k, w);
-    to + 1 + k
+    put_led(out, to, k as u8, k, w)
 }

@@ -1,5 +1,6 @@
 -- `put_enumerated` stores the octets of `enumerated_octets`.
 -- Assumes nothing.
+use mathlib.Core.Path.{refl}
 use Rattle.octets.proofs.Puts.{put_enumerated_long, put_enumerated_short}
 use Rattle.octets.proofs.enumerated.put_enumerated.Goals as goal
 
@@ -10,9 +11,5 @@ returns-then-w-lt128 c =
 
 pub returns : goal.returns
 returns c =
-    put_enumerated_long _ _ _ _ _ _
-    c.fewest_signed-k.ensures.2
-    c.put_number.ensures
-    c.fewest_signed-k.ensures.0
-    c.if-w-lt128.false
-    c.put-2.ensures
+    let k = c.fewest_signed-k.ensures in
+    put_enumerated_long _ _ _ _ _ _ _ k.2 c.put_led.ensures k.0 c.if-w-lt128.false refl
