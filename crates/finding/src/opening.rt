@@ -43,6 +43,7 @@ fn open_sequence(
     let own = first + step as usize;
     let bit = count_marked(items, first, step as usize);
     let bits = bit + count_marked(items, own, (n - step) as usize);
+    // `div_ceil` would be five instructions in place of two, here and below
     if msg.len() - at < (bits + 7) / 8 {
         return Err(Cause::Short.at(at));
     }

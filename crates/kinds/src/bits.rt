@@ -9,7 +9,7 @@ use octets::faults::{Cause, Fault};
 use octets::lengths::read_run;
 use octets::nodes::put_node;
 use octets::presence::low_bits_clear;
-use octets::units::{Bits, octets_of, unused_of};
+use octets::units::Bits;
 use octets::words::{copy, octet};
 use table::bounds::{is_fixed, is_sized};
 
@@ -26,13 +26,13 @@ fn fixed_bits(
     requires { (count < 4096) × (at ≤ length msg.now) × (used ≤ at) }
     ensures { Ran msg.now (fixed_bits_at size.0 msg.now at count) at count used nodes.old contents.old nodes.new contents.new result }
 {
-    let filled = octets_of(size);
+    let filled = size.octets();
     let n = filled.0;
     if ((msg.len() - at) as u64) < n {
         return Err(Cause::Short.at(at));
     }
     // unused bits are 0 (13.2.2)
-    if !low_bits_clear(msg, at, n as usize, unused_of(size) as usize) {
+    if !low_bits_clear(msg, at, n as usize, size.unused() as usize) {
         return Err(Cause::NotCanonical.at(at));
     }
     put_node(nodes, count, 8, size.0);

@@ -1,4 +1,4 @@
--- Numbers big end first: one octet more at the low end, read and stored; words by their sign, and in the signed order.
+-- Numbers big end first: one octet more at the low end, read and stored; words by their sign.
 -- Assumes nothing.
 use mathlib.Core.Path.{◌≡◌, ◌∙◌}
 use mathlib.Core.List.{List, [], ◌∷◌, ◌++◌}
@@ -9,13 +9,12 @@ use native.Mathlib.Omega.{arith}
 use lib.ListN.{length, get_or, set, take, drop, length-drop}
 use lib.Seq.{sets, take-suc, get_or-drop}
 use lib.Arith.{digits_lt}
-use lib.Pow.{pow-add, pow_mono, shr-shr}
+use lib.Pow.{pow-add, pow_mono, pow_pos, shr-shr}
 use borrow.Author.Tests.{lt-ltb, le-ltb}
 use Rattle.x696.specs.Digits.{digits, from_digits}
 use Rattle.x696.proofs.DigitsLaws.{digits_length, mul_step}
 use Rattle.octets.proofs.DigitsAt.{from_digits_snoc}
 use Rattle.x696.specs.Fewest.{word_in}
-use Rattle.x696.specs.Integer.{rank}
 use Rattle.octets.proofs.Stores.{sets_append, sets_comm}
 
 -- ---- one digit more at the low end
@@ -54,39 +53,12 @@ pub stored_all : (out m : List ℕ) (to i v : ℕ) → i ≤ 0 → sets out to (
 unfolding digits
 stored_all out m to i v h e = let f : i ≡ 0 = omega arith in rw f at e
 
--- ---- 1 to 8 octets
-five_up : (k : ℕ) → 1 ≤ k → (k ≡ 1 → ⊥) → (k ≡ 2 → ⊥) → (k ≡ 3 → ⊥) → (k ≡ 4 → ⊥) → 5 ≤ k
-five_up k h a b c d = omega arith
-
-eight_up : (k : ℕ) → 5 ≤ k → k ≤ 8 → (k ≡ 5 → ⊥) → (k ≡ 6 → ⊥) → (k ≡ 7 → ⊥) → k ≡ 8
-eight_up k h g a b c = omega arith
-
--- what is none of 1 to 7, as the last arm of a `match` has it, is 8
-abbrev pub Above7 : ℕ → Type 0
-Above7 k =
-    ((((((Unit {0} × (k ≡ 1 → ⊥)) × (k ≡ 2 → ⊥)) × (k ≡ 3 → ⊥)) × (k ≡ 4 → ⊥)) × (k ≡ 5 → ⊥)) × (k ≡ 6 → ⊥))
-    × (k ≡ 7 → ⊥)
-
-pub is_eight : (k : ℕ) → (1 ≤ k) × (k ≤ 8) → Above7 k → k ≡ 8
-is_eight k h r =
-    let five = five_up k h.0 r.0.0.0.0.0.0.1 r.0.0.0.0.0.1 r.0.0.0.0.1 r.0.0.0.1 in
-    eight_up k five h.1 r.0.0.1 r.0.1 r.1
-
 -- ---- the word of k octets, by their sign
 pub word_plus : (k m half : ℕ) → half + half ≡ 2 ^ (8 * k) → m < half → m ≡ word_in k m
 unfolding word_in
 word_plus k m half e h = rw (lt-ltb (2 * m) (2 ^ (8 * k)) (omega arith))
 
-pub word_minus : (k m half sign : ℕ) → half + half ≡ 2 ^ (8 * k) → sign + 2 ^ (8 * k) ≡ 2 ^ 64 → half ≤ m
-    → m + sign ≡ word_in k m
+pub word_minus : (k m half : ℕ) → half + half ≡ 2 ^ (8 * k) → 2 ^ (8 * k) ≤ 2 ^ 64 → half ≤ m
+    → m + (2 ^ 64 - 1 - (half - 1) - half) ≡ word_in k m
 unfolding word_in
-word_minus k m half sign e f h = rw (le-ltb (2 * m) (2 ^ (8 * k)) (omega arith)) (omega arith)
-
--- ---- the signed order
-pub rank_low : (w : ℕ) → w < 2 ^ 63 → w + 2 ^ 63 ≡ rank w
-unfolding rank
-rank_low w h = omega arith
-
-pub rank_high : (w : ℕ) → w < 2 ^ 64 → 2 ^ 63 ≤ w → w - 2 ^ 63 ≡ rank w
-unfolding rank
-rank_high w h g = omega arith
+word_minus k m half e f h = rw (le-ltb (2 * m) (2 ^ (8 * k)) (omega arith)) (omega (arith, pow_pos (8 * k)))

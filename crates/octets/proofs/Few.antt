@@ -4,12 +4,13 @@
 use mathlib.Core.Path.{◌≡◌, sym}
 use mathlib.Core.Bool.{true, false, not}
 use mathlib.Core.List.{List, [], ◌∷◌}
-use Prim.Native.Nat.{ℕ, zero, suc, ◌+◌, ◌*◌, ◌^◌, ◌-◌, ◌<◌, ◌≤◌}
+use Prim.Native.Nat.{ℕ, zero, suc, ◌+◌, ◌*◌, ◌^◌, ◌-◌, ◌/◌, ◌<◌, ◌≤◌, max}
 use native.Mathlib.Nat.{mul_comm, mul_left_comm, mul-le-mul_right}
+use native.Mathlib.Numerals.{add-one}
 use native.Mathlib.Omega.{arith}
 use lib.ListN.{length}
 use lib.Dec.{eqb}
-use lib.Pow.{pow-add}
+use lib.Pow.{pow-add, pow_mono}
 use borrow.Author.Tests.{lt-ltb, le-ltb, eq-eqb, ne_eqb, eqb-true, eqb-false}
 use Rattle.x696.proofs.OutcomeLaws.{cases, cases_lt}
 use Rattle.x696.specs.Digits.{from_digits, Below}
@@ -18,9 +19,20 @@ use Rattle.x696.specs.Fewest.{fewest, magnitude, fewest_signed, magnitude_in, is
 use Rattle.x696.proofs.FewestLaws.{fewest_is, fewest_pos, fewest_least}
 
 -- from 2 ^ (8 * j) on, and from 0 on for j = 0, up to 2 ^ (8 * (j + 1)) there are j + 1
-pub fewest_between : (j n : ℕ) → (1 ≤ j → 2 ^ (8 * j) ≤ n) → n < 2 ^ (8 * suc j) → suc j ≡ fewest 8 n
+fewest_between : (j n : ℕ) → (1 ≤ j → 2 ^ (8 * j) ≤ n) → n < 2 ^ (8 * suc j) → suc j ≡ fewest 8 n
 fewest_between zero n g h = omega (arith, fewest_pos 8 n, fewest_least 8 n 0 h)
 fewest_between (suc j) n g h = sym (fewest_is 8 n (suc j) (omega arith) h (g (omega arith)))
+
+-- bit t is the highest that is 1; for 0, which is held as 1 is, it is bit 0
+pub fewest_top : (n t : ℕ) → 2 ^ t ≤ max n 1 → max n 1 < 2 * 2 ^ t → t / 8 + 1 ≡ fewest 8 n
+fewest_top n t g h =
+    let a : 2 ^ (8 * (t / 8)) ≤ 2 ^ t = pow_mono {i = 8 * (t / 8)} {j = t} (omega arith) in
+    let b : 2 ^ (1 + t) ≤ 2 ^ (8 * suc (t / 8)) = pow_mono {i = 1 + t} {j = 8 * suc (t / 8)} (omega arith) in
+    let e : 2 ^ (1 + t) ≡ 2 * 2 ^ t = pow-add 2 1 t in
+    rw add-one
+    (fewest_between (t / 8) n
+    (λ s. let d : 2 ^ 8 ≤ 2 ^ (8 * (t / 8)) = pow_mono {i = 8} {j = 8 * (t / 8)} (omega arith) in omega arith)
+    (omega arith))
 
 pub magnitude_low : (w : ℕ) → w < 2 ^ 63 → w ≡ magnitude w
 unfolding magnitude

@@ -4,7 +4,6 @@ use mathlib.Core.Path.{◌≡◌, refl, ◌∙◌}
 use mathlib.Core.List.{List, [], ◌∷◌}
 use Prim.Native.Nat.{ℕ, ◌+◌, ◌%◌, ◌<◌, ◌≤◌}
 use native.Mathlib.Omega.{arith}
-use native.Mathlib.Numerals.{add-one}
 use lib.ListN.{length, set}
 use lib.Seq.{sets}
 use borrow.Author.Tests.{lt-ltb, le-ltb}
@@ -28,10 +27,9 @@ stored_one l m to x os e h s =
     rw e (s ∙ rw q, refl, omega arith)
 
 -- an octet, and k octets of a number
-stored_more : (l l₁ l₂ : List ℕ) (to x k w : ℕ) (os : List ℕ) → os ≡ x ∷ digits 8 k w → k ≤ 8 → l₁ ≡ set l to x
-    → l₂ ≡ sets l₁ (to + 1) (digits 8 k w) → Stored l l₂ to (to + 1 + k) os
-stored_more l l₁ l₂ to x k w os e h s s₂ =
-    rw e (s₂ ∙ rw (s, add-one to), omega (arith, digits_length 8 k w), omega arith)
+stored_more : (l m : List ℕ) (to r x k w : ℕ) (os : List ℕ) → os ≡ x ∷ digits 8 k w → k ≤ 8
+    → (m ≡ sets l to (x ∷ digits 8 k w)) × (r ≡ to + 1 + k) → Stored l m to r os
+stored_more l m to r x k w os e h s = rw (e, s.1) (s.0, omega (arith, digits_length 8 k w), omega arith)
 
 -- ---- the octets of each definition
 length_short : (n : ℕ) → n < 128 → length_octets n ≡ n ∷ []
@@ -67,17 +65,16 @@ module _ (l m : List ℕ) (to x : ℕ) (h : x < 128) (s : m ≡ set l to (x % 25
   pub put_enumerated_short : Stored l m to (to + 1) (enumerated_octets x)
   put_enumerated_short = stored_one l m to x _ (enumerated_short x h) h s
 
-module _ (l l₁ l₂ : List ℕ) (to k w : ℕ) (h : k ≤ 8) (s₂ : l₂ ≡ sets l₁ (to + 1) (digits 8 k w)) where
-  pub put_length_long : k ≡ fewest 8 w → 128 ≤ w → l₁ ≡ set l to (128 + k)
-      → Stored l l₂ to (to + 1 + k) (length_octets w)
-  put_length_long e g s = stored_more l l₁ l₂ to (128 + k) k w _ (length_long w k g e) h s s₂
+-- an octet x and the k octets of w, and where the next one goes
+module _ (l m : List ℕ) (to r x k w : ℕ) (h : k ≤ 8) (s : (m ≡ sets l to (x ∷ digits 8 k w)) × (r ≡ to + 1 + k)) where
+  pub put_length_long : k ≡ fewest 8 w → 128 ≤ w → x ≡ 128 + k → Stored l m to r (length_octets w)
+  put_length_long e g f = stored_more l m to r x k w _ (rw f (length_long w k g e)) h s
 
-  pub put_enumerated_long : k ≡ fewest_signed w → 128 ≤ w → l₁ ≡ set l to (128 + k)
-      → Stored l l₂ to (to + 1 + k) (enumerated_octets w)
-  put_enumerated_long e g s = stored_more l l₁ l₂ to (128 + k) k w _ (enumerated_long w k g e) h s s₂
+  pub put_enumerated_long : k ≡ fewest_signed w → 128 ≤ w → x ≡ 128 + k → Stored l m to r (enumerated_octets w)
+  put_enumerated_long e g f = stored_more l m to r x k w _ (rw f (enumerated_long w k g e)) h s
 
-  pub put_variable_unsigned : k ≡ fewest 8 w → l₁ ≡ set l to k → Stored l l₂ to (to + 1 + k) (variable_unsigned w)
-  put_variable_unsigned e s = stored_more l l₁ l₂ to k k w _ (variable_unsigned_lem w k e h) h s s₂
+  pub put_variable_unsigned : k ≡ fewest 8 w → x ≡ k → Stored l m to r (variable_unsigned w)
+  put_variable_unsigned e f = stored_more l m to r x k w _ (rw f (variable_unsigned_lem w k e h)) h s
 
-  pub put_variable_signed : k ≡ fewest_signed w → l₁ ≡ set l to k → Stored l l₂ to (to + 1 + k) (variable_signed w)
-  put_variable_signed e s = stored_more l l₁ l₂ to k k w _ (variable_signed_lem w k e h) h s s₂
+  pub put_variable_signed : k ≡ fewest_signed w → x ≡ k → Stored l m to r (variable_signed w)
+  put_variable_signed e f = stored_more l m to r x k w _ (rw f (variable_signed_lem w k e h)) h s

@@ -1,11 +1,10 @@
 -- Bits of an octet by their weight 2 ^ (7 - j): the lowest of some octets, one set or cleared; and zero octets stored.
 -- Assumes nothing.
-use mathlib.Core.Path.{◌≡◌, refl, sym, ap, ◌∙◌}
+use mathlib.Core.Path.{◌≡◌, sym, ap, ◌∙◌}
 use mathlib.Core.Bool.{Bool, true, false, cond}
 use mathlib.Core.List.{List, [], ◌∷◌, ◌++◌}
 use Prim.Native.Nat.{ℕ, suc, ◌+◌, ◌*◌, ◌-◌, ◌/◌, ◌%◌, ◌^◌, ◌<◌, ◌≤◌}
-use native.Mathlib.Nat.{add-zero, sub-zero, le_trans, mul-le-mul_right}
-use native.Mathlib.Nat.{mod-le, mod-lt, mod-one, mod-eq_of_lt, div-mul-le_self}
+use native.Mathlib.Nat.{mod-lt, mod-one, mod-eq_of_lt}
 use native.Mathlib.Omega.{arith}
 use lib.ListN.{length, get_or, set, take, drop, replicate, length-drop, length-set}
 use lib.Seq.{sets, take-suc, get_or-drop}
@@ -18,17 +17,6 @@ use Rattle.x696.specs.Encode.{bit}
 use Rattle.octets.specs.Presence.{with_bit}
 use Rattle.x696.proofs.Complete.{bit_lt}
 use Rattle.octets.proofs.DigitsAt.{from_digits_snoc}
-
--- the last of eight cases
-third : (j : ℕ) → (j ≡ 0 → ⊥) → (j ≡ 1 → ⊥) → (j ≡ 2 → ⊥) → 3 ≤ j
-third j a b c = omega arith
-
-seventh : (j : ℕ) → 3 ≤ j → j < 8 → (j ≡ 3 → ⊥) → (j ≡ 4 → ⊥) → (j ≡ 5 → ⊥) → (j ≡ 6 → ⊥) → j ≡ 7
-seventh j g h a b c d = omega arith
-
-pub the_seventh : (j : ℕ) → j < 8 → (j ≡ 0 → ⊥) → (j ≡ 1 → ⊥) → (j ≡ 2 → ⊥) → (j ≡ 3 → ⊥) → (j ≡ 4 → ⊥) → (j ≡ 5 → ⊥)
-    → (j ≡ 6 → ⊥) → j ≡ 7
-the_seventh j h a b c d e f g = seventh j (third j a b c) h d e f g
 
 -- ---- the lowest bits
 pub clear_none : (os : List ℕ) {u : ℕ} → u ≡ 0 → true ≡ low_bits_clear u os
@@ -57,10 +45,6 @@ clear_last msg start n u d w h g l z ed ew =
     rw (ew, b, s, from_digits_snoc 8 (take (n - 1) (drop start msg)) d, low_bits m d u (omega arith))
 
 -- ---- one bit
--- what a bit adds to its octet
-pub bit_part : (o w : ℕ) → o / w % 2 * w ≤ o
-bit_part o w = le_trans (mul-le-mul_right w (mod-le (o / w) 2)) (div-mul-le_self o w)
-
 -- the bit in the middle, h above it, l below it
 pub with_bit_is : (h x l j : ℕ) (t : Bool) → x < 2 → l < 2 ^ (7 - j)
     → with_bit ((h * 2 + x) * 2 ^ (7 - j) + l) j t ≡ (h * 2 + bit t) * 2 ^ (7 - j) + l
@@ -121,9 +105,6 @@ pub record Zeroed (l₀ : List ℕ) (to n : ℕ) (l : List ℕ) (i : ℕ) : Type
   pub within : i ≤ n
 
 module _ (l₀ : List ℕ) (to n : ℕ) where
-  pub zeroed_start : Zeroed l₀ to n l₀ 0
-  zeroed_start = record { same = rw (add-zero to, sub-zero n); kept = refl; within = omega arith }
-
   module _ {l : List ℕ} {i : ℕ} (z : Zeroed l₀ to n l i) where
     pub zeroed_more : {l' : List ℕ} → i < n → l' ≡ set l (to + i) 0 → Zeroed l₀ to n l' (i + 1)
     zeroed_more h e =
@@ -134,6 +115,3 @@ module _ (l₀ : List ℕ) (to n : ℕ) where
           kept = length-set l (to + i) 0 ∙ z.kept;
           within = omega arith;
         })
-
-    pub zeroed_all : n ≤ i → l ≡ sets l₀ to (replicate n 0)
-    zeroed_all h = let a : n - i ≡ 0 = omega arith in rw a at z.same

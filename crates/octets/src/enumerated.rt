@@ -7,9 +7,9 @@ ghost use Rattle.octets.specs.Answers.{NumberAnswer, long_number};
 use crate::answers::Number;
 use crate::faults::{Cause, Fault};
 use crate::fewest::fewest_signed;
-use crate::numbers::put_number;
+use crate::numbers::put_led;
 use crate::variable::signed_in;
-use crate::words::{octet, put_octet};
+use crate::words::{octet, put};
 
 // The long form, from its k subsequent octets on (11.4).
 fn long_number(msg: &[u8], start: usize, k: usize, place: usize) -> Result<Number, Fault>
@@ -53,11 +53,9 @@ pub fn put_enumerated(out: &mut [u8], to: usize, w: u64) -> usize
     ensures { (out.new ≡ sets out.old to (enumerated_octets w)) × (result ≡ to + length (enumerated_octets w)) × (result ≤ to + 9) }
 {
     if w < 128 {
-        put_octet(out, to, (w % 256) as u8);
+        put(out, to, (w % 256) as u8);
         return to + 1;
     }
     let k = fewest_signed(w);
-    put_octet(out, to, (128 + k) as u8);
-    put_number(out, to + 1, k, w);
-    to + 1 + k
+    put_led(out, to, (128 + k) as u8, k, w)
 }

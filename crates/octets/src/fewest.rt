@@ -2,45 +2,15 @@
 ghost use Rattle.std.specs.Prelude.{◌≡◌, ◌+◌, ◌*◌, ◌<◌, ◌≤◌};
 ghost use Rattle.x696.specs.Fewest.{fewest, magnitude, fewest_signed};
 
-// Unsigned: 1 to 8, by halving.
+// Unsigned: 1 to 8, by the highest bit that is 1.
 pub fn fewest_unsigned(n: u64) -> usize
     ensures { (result ≡ fewest 8 n) × (1 ≤ result) × (result ≤ 8) }
 {
-    if n < 0x1_0000_0000 {
-        low_half(n)
-    } else {
-        high_half(n)
-    }
+    let top = n.max(1).ilog2() as usize;
+    top / 8 + 1
 }
 
-fn low_half(n: u64) -> usize
-    requires { n < 0x1_0000_0000 }
-    ensures { (result ≡ fewest 8 n) × (1 ≤ result) × (result ≤ 8) }
-{
-    let one_octet = n < 0x100;
-    if one_octet {
-        return 1;
-    }
-    if n < 0x1_0000 {
-        return 2;
-    }
-    if n < 0x100_0000 { 3 } else { 4 }
-}
-
-fn high_half(n: u64) -> usize
-    requires { 0x1_0000_0000 ≤ n }
-    ensures { (result ≡ fewest 8 n) × (1 ≤ result) × (result ≤ 8) }
-{
-    if n < 0x100_0000_0000 {
-        return 5;
-    }
-    if n < 0x1_0000_0000_0000 {
-        return 6;
-    }
-    if n < 0x100_0000_0000_0000 { 7 } else { 8 }
-}
-
-// How far a word lies from 0, or from -1 if it is negative.
+// How far a word lies from 0, or from -1 if it is negative. (The library's `unsigned_abs` counts from 0 alone.)
 pub fn magnitude_of(w: u64) -> u64
     ensures { (result ≡ magnitude w) × (result < 0x8000_0000_0000_0000) }
 {

@@ -7,9 +7,9 @@ ghost use Rattle.octets.specs.Answers.{RunAnswer, long_run};
 use crate::answers::Piece;
 use crate::faults::{Cause, Fault};
 use crate::fewest::fewest_unsigned;
-use crate::numbers::{is_fewest, put_number, read_number};
+use crate::numbers::{is_fewest, put_led, read_number};
 use crate::units::Octets;
-use crate::words::{octet, put_octet};
+use crate::words::{octet, put};
 
 // The n octets from `start` on; 5 where fewer are left.
 pub fn run_at(msg: &[u8], start: usize, n: u64, place: usize) -> Result<Piece, Fault>
@@ -78,11 +78,9 @@ pub fn put_length(out: &mut [u8], to: usize, n: Octets) -> usize
     let m = n.0;
     let short = m < 128;
     if short {
-        put_octet(out, to, (m % 256) as u8);
+        put(out, to, (m % 256) as u8);
         return to + 1;
     }
     let k = fewest_unsigned(m);
-    put_octet(out, to, (128 + k) as u8);
-    put_number(out, to + 1, k, m);
-    to + 1 + k
+    put_led(out, to, (128 + k) as u8, k, m)
 }

@@ -2,7 +2,7 @@
 ghost use Rattle.std.specs.Prelude.{◌≡◌, ◌+◌, ◌*◌, ◌/◌, ◌<◌, ◌≤◌, length, get_or, [], ◌∷◌};
 ghost use Rattle.std.proofs.lemmas.List.Edits.{sets};
 
-use crate::words::put_word;
+use crate::words::put;
 
 // The kind of node i, which is there.
 pub fn node_kind(nodes: &[u64], i: usize) -> u64
@@ -25,6 +25,6 @@ pub fn put_node(nodes: &mut [u64], i: usize, kind: u64, number: u64)
     requires { i ≤ 4096 }
     ensures { nodes.new ≡ sets nodes.old (i * 2) (kind ∷ number ∷ []) }
 {
-    put_word(nodes, i * 2, kind);
-    put_word(nodes, i * 2 + 1, number);
+    put(nodes, i * 2, kind);
+    put(nodes, i * 2 + 1, number);
 }

@@ -1,41 +1,23 @@
 // Numbers of 1 to 8 octets, big end first, read and written; the signed order of words.
-ghost use Rattle.std.specs.Prelude.{◌≡◌, ◌+◌, ◌*◌, ◌^◌, ◌<◌, ◌≤◌, length, take, drop};
+ghost use Rattle.std.specs.Prelude.{◌≡◌, ◌+◌, ◌*◌, ◌^◌, ◌<◌, ◌≤◌, ◌∷◌, length, take, drop};
 ghost use Rattle.std.proofs.lemmas.List.Edits.{sets};
 ghost use Rattle.x696.specs.Digits.{digits, from_digits};
 ghost use Rattle.x696.specs.Fewest.{word_in, is_fewest, is_fewest_signed};
 ghost use Rattle.x696.specs.Integer.{rank};
 
-use crate::words::{octet, put_octet};
+use crate::words::{octet, put};
 
-// The number that the k octets from `start` on hold.
+// The number that the k octets from `start` on hold. `octet`, though all are there: without its test the loop is
+// unrolled and the readers around it grow, so that validating and decoding small values cost 6 in 100 more.
 pub fn read_number(msg: &[u8], start: usize, k: usize) -> u64
     requires { (k ≤ 8) × (start + k ≤ length msg.now) }
     ensures { (result ≡ from_digits 8 (take k (drop start msg.now))) × (result < 2 ^ (8 * k)) }
 {
     let mut v = 0;
-    let mut i = 0;
-    while i < k {
+    for i in 0..k {
         v = v * 256 + octet(msg, start + i);
-        i += 1;
     }
     v
-}
-
-// 2 ^ 64 - 2 ^ (8 * k): what the sign of k octets adds to a word.
-fn sign_of(k: usize) -> u64
-    requires { (1 ≤ k) × (k ≤ 8) }
-    ensures { result + 2 ^ (8 * k) ≡ 2 ^ 64 }
-{
-    match k {
-        1 => 0xffff_ffff_ffff_ff00,
-        2 => 0xffff_ffff_ffff_0000,
-        3 => 0xffff_ffff_ff00_0000,
-        4 => 0xffff_ffff_0000_0000,
-        5 => 0xffff_ff00_0000_0000,
-        6 => 0xffff_0000_0000_0000,
-        7 => 0xff00_0000_0000_0000,
-        _ => 0,
-    }
 }
 
 // The word that k octets with the unsigned number m stand for, in two's complement.
@@ -43,8 +25,10 @@ pub fn sign_extend(k: usize, m: u64) -> u64
     requires { (1 ≤ k) × (k ≤ 8) × (m < 2 ^ (8 * k)) }
     ensures { result ≡ word_in k m }
 {
-    let sign = sign_of(k);
-    if m < half_of(k) { m } else { m + sign }
+    let half = half_of(k);
+    // what the sign of k octets adds to a word: 2 ^ 64 - 2 ^ (8 * k)
+    let sign = u64::MAX - (half - 1) - half;
+    if m < half { m } else { m + sign }
 }
 
 // 2 ^ (8 * k - 1): the numbers below it have no sign in k octets.
@@ -52,16 +36,7 @@ fn half_of(k: usize) -> u64
     requires { (1 ≤ k) × (k ≤ 8) }
     ensures { result + result ≡ 2 ^ (8 * k) }
 {
-    match k {
-        1 => 0x80,
-        2 => 0x8000,
-        3 => 0x80_0000,
-        4 => 0x8000_0000,
-        5 => 0x80_0000_0000,
-        6 => 0x8000_0000_0000,
-        7 => 0x80_0000_0000_0000,
-        _ => 0x8000_0000_0000_0000,
-    }
+    1 << (8 * k - 1)
 }
 
 // Whether the k octets from `start` on are the fewest for their number: one, or the first is not 0 (31.2, 31.4).
@@ -98,16 +73,14 @@ pub fn is_fewest_signed(msg: &[u8], start: usize, k: usize) -> bool
     }
 }
 
-// The k octets of w, big end first, as far as there is room.
+// The k octets of w, big end first, as far as there is room. Over `to..to + k` the turns would cost more.
 fn put_digits(out: &mut [u8], to: usize, k: usize, w: u64)
     requires { (k ≤ 8) × (to < 2 ^ 48) }
     ensures { out.new ≡ sets out.old to (digits 8 k w) }
 {
     let mut v = w;
-    let mut i = k;
-    while 0 < i {
-        i -= 1;
-        put_octet(out, to + i, (v % 256) as u8);
+    for i in (0..k).rev() {
+        put(out, to + i, (v % 256) as u8);
         v = v / 256;
     }
 }
@@ -123,13 +96,19 @@ pub fn put_number(out: &mut [u8], to: usize, k: usize, w: u64)
     put_digits(out, to, k, w);
 }
 
+// Stores an octet and behind it the k octets of w, as far as there is room.
+pub(crate) fn put_led(out: &mut [u8], to: usize, lead: u8, k: usize, w: u64) -> usize
+    requires { (k ≤ 8) × (to < 2 ^ 40) }
+    ensures { (out.new ≡ sets out.old to (lead ∷ digits 8 k w)) × (result ≡ to + 1 + k) }
+{
+    put(out, to, lead);
+    put_number(out, to + 1, k, w);
+    to + 1 + k
+}
+
 // Where a word stands in the signed order.
 pub fn rank_of(w: u64) -> u64
     ensures { result ≡ rank w }
 {
-    if w < 0x8000_0000_0000_0000 {
-        w + 0x8000_0000_0000_0000
-    } else {
-        w - 0x8000_0000_0000_0000
-    }
+    w.wrapping_add(0x8000_0000_0000_0000)
 }

@@ -4,23 +4,14 @@ ghost use Rattle.std.proofs.lemmas.List.Edits.{sets};
 ghost use Rattle.x696.specs.Bits.{bit_octets, unused_bits, low_bits_clear};
 ghost use Rattle.octets.specs.Presence.{bit_at, with_bit};
 
-use crate::words::{octet, put_octet};
+use crate::words::{octet, put};
 
 // 2 ^ (7 - j): the weight of bit j from the top of an octet.
 fn weight(j: usize) -> u64
     requires { j < 8 }
     ensures { (result ≡ 2 ^ (7 - j)) × (result ≤ 128) × (1 ≤ result) }
 {
-    match j {
-        0 => 128,
-        1 => 64,
-        2 => 32,
-        3 => 16,
-        4 => 8,
-        5 => 4,
-        6 => 2,
-        _ => 1,
-    }
+    1 << (7 - j)
 }
 
 // Whether presence bit b of the preamble at `pre` is 1.
@@ -42,15 +33,13 @@ pub fn low_bits_clear(msg: &[u8], start: usize, n: usize, u: usize) -> bool
     octet(msg, start + n - 1) % weight(7 - u) == 0
 }
 
-// Stores n zero octets, as far as there is room.
+// Stores n zero octets, as far as there is room. `fill` would ask for the part that has room first, and be no plainer.
 pub fn put_zeros(out: &mut [u8], to: usize, n: usize)
     requires { (to < 2 ^ 48) × (n ≤ 128) }
     ensures { out.new ≡ sets out.old to (replicate n 0) }
 {
-    let mut i = 0;
-    while i < n {
-        put_octet(out, to + i, 0);
-        i += 1;
+    for i in 0..n {
+        put(out, to + i, 0);
     }
 }
 
@@ -64,8 +53,8 @@ pub fn put_presence(out: &mut [u8], pre: usize, b: usize, present: bool)
     let o = octet(out, k);
     let bit = o / w % 2 * w;
     if present {
-        put_octet(out, k, ((o - bit + w) % 256) as u8);
+        put(out, k, ((o - bit + w) % 256) as u8);
     } else {
-        put_octet(out, k, ((o - bit) % 256) as u8);
+        put(out, k, ((o - bit) % 256) as u8);
     }
 }

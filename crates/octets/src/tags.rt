@@ -7,7 +7,7 @@ ghost use Rattle.octets.specs.Answers.{TagAnswer, long_tag, capped};
 
 use crate::answers::Tag;
 use crate::faults::{Cause, Fault};
-use crate::words::{octet, put_octet};
+use crate::words::{octet, put};
 
 // A number below 2,097,152 with one more group of seven bits, as far as 2,097,152.
 fn with_group(n: u64, group: u64) -> u64
@@ -72,21 +72,21 @@ pub fn put_tag(out: &mut [u8], to: usize, class: u64, number: u64) -> usize
 {
     let short = number < 63;
     if short {
-        put_octet(out, to, (class * 64 + number) as u8);
+        put(out, to, (class * 64 + number) as u8);
         return to + 1;
     }
-    put_octet(out, to, (class * 64 + 63) as u8);
+    put(out, to, (class * 64 + 63) as u8);
     if number < 128 {
-        put_octet(out, to + 1, number as u8);
+        put(out, to + 1, number as u8);
         return to + 2;
     }
     if number < 16384 {
-        put_octet(out, to + 1, (128 + number / 128) as u8);
-        put_octet(out, to + 2, (number % 128) as u8);
+        put(out, to + 1, (128 + number / 128) as u8);
+        put(out, to + 2, (number % 128) as u8);
         return to + 3;
     }
-    put_octet(out, to + 1, (128 + number / 16384) as u8);
-    put_octet(out, to + 2, (128 + number / 128 % 128) as u8);
-    put_octet(out, to + 3, (number % 128) as u8);
+    put(out, to + 1, (128 + number / 16384) as u8);
+    put(out, to + 2, (128 + number / 128 % 128) as u8);
+    put(out, to + 3, (number % 128) as u8);
     to + 4
 }

@@ -8,9 +8,8 @@ use crate::answers::{Number, Quantity};
 use crate::faults::{Cause, Fault};
 use crate::fewest::{fewest_signed, fewest_unsigned};
 use crate::lengths::read_run;
-use crate::numbers::{is_fewest, is_fewest_signed, put_number, read_number, sign_extend};
+use crate::numbers::{is_fewest, is_fewest_signed, put_led, read_number, sign_extend};
 use crate::units::Occurrences;
-use crate::words::put_octet;
 
 // The unsigned number in a run of k octets: 6, then 8.
 fn unsigned_in(msg: &[u8], start: usize, k: usize, place: usize) -> Result<Number, Fault>
@@ -83,9 +82,7 @@ pub fn put_unsigned(out: &mut [u8], to: usize, n: u64) -> usize
     ensures { (out.new ≡ sets out.old to (variable_unsigned n)) × (result ≡ to + length (variable_unsigned n)) × (result ≤ to + 9) }
 {
     let k = fewest_unsigned(n);
-    put_octet(out, to, k as u8);
-    put_number(out, to + 1, k, n);
-    to + 1 + k
+    put_led(out, to, k as u8, k, n)
 }
 
 // Stores a quantity.
@@ -102,7 +99,5 @@ pub fn put_signed(out: &mut [u8], to: usize, w: u64) -> usize
     ensures { (out.new ≡ sets out.old to (variable_signed w)) × (result ≡ to + length (variable_signed w)) × (result ≤ to + 9) }
 {
     let k = fewest_signed(w);
-    put_octet(out, to, k as u8);
-    put_number(out, to + 1, k, w);
-    to + 1 + k
+    put_led(out, to, k as u8, k, w)
 }

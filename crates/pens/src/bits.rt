@@ -8,8 +8,8 @@ use crate::head::Head;
 use octets::faults::Cause;
 use octets::lengths::put_length;
 use octets::presence::low_bits_clear;
-use octets::units::{Bits, Octets, octets_of, unused_of};
-use octets::words::put_octet;
+use octets::units::{Bits, Octets};
+use octets::words::put;
 use table::bounds::{is_fixed, is_sized};
 
 // Nothing before contents of a fixed size (13.2), else the determinant of one octet more than they fill, and the
@@ -21,9 +21,9 @@ fn put_bits_head(flags: u64, a: u64, b: u64, size: Bits, to: usize, out: &mut [u
     if is_fixed(flags, a, b) {
         return to;
     }
-    let filled = octets_of(size);
+    let filled = size.octets();
     let next = put_length(out, to, Octets(filled.0 + 1));
-    put_octet(out, next, unused_of(size) as u8);
+    put(out, next, size.unused() as u8);
     next + 1
 }
 
@@ -40,13 +40,14 @@ pub fn begin_bits(
     requires { (used ≤ length contents.now) × (length contents.now ≤ 65535) × (to < 2 ^ 40) }
     ensures { Headed (bit_string flags a b) contents.now n used to out.old out.new result }
 {
-    let whole = octets_of(Bits(n));
+    let size = Bits(n);
+    let whole = size.octets();
     let filled = whole.0;
     if ((contents.len() - used) as u64) < filled {
         return Err(Cause::BadList);
     }
     // unused bits are 0 (13.2.2, 13.3.3)
-    if !low_bits_clear(contents, used, filled as usize, unused_of(Bits(n)) as usize) {
+    if !low_bits_clear(contents, used, filled as usize, size.unused() as usize) {
         return Err(Cause::BadList);
     }
     if !is_sized(flags, a, b, n) {
@@ -54,6 +55,6 @@ pub fn begin_bits(
     }
     Ok(Head {
         filled: filled as usize,
-        to: put_bits_head(flags, a, b, Bits(n), to, out),
+        to: put_bits_head(flags, a, b, size, to, out),
     })
 }

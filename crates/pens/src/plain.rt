@@ -4,7 +4,7 @@ ghost use Rattle.x696.specs.Leaf.{boolean, null};
 ghost use Rattle.pens.specs.Flat.{Numbered};
 
 use octets::faults::Cause;
-use octets::words::put_octet;
+use octets::words::put;
 
 pub fn write_boolean(n: u64, to: usize, out: &mut [u8]) -> Result<usize, Cause>
     requires { to < 2 ^ 40 }
@@ -14,7 +14,7 @@ pub fn write_boolean(n: u64, to: usize, out: &mut [u8]) -> Result<usize, Cause>
         return Err(Cause::BadList);
     }
     // TRUE is FF (31.3)
-    put_octet(out, to, (255 * n) as u8);
+    put(out, to, (255 * n) as u8);
     Ok(to + 1)
 }
 

@@ -45,6 +45,7 @@ pub fn is_padded(msg: &[u8], at: usize, n: usize) -> bool
     requires { (n ≤ 1024) × (at + bit_octets n ≤ length msg.now) }
     ensures { result ≡ low_bits_clear (unused_bits n) (take (bit_octets n) (drop at msg.now)) }
 {
+    // `div_ceil` would be five instructions in place of two
     let octets = (n + 7) / 8;
     low_bits_clear(msg, at, octets, octets * 8 - n)
 }

@@ -218,6 +218,7 @@ fn read_sequence(
     let n = row_count(rows, row) as usize;
     put_node(nodes, count, 10, n as u64);
     let bits = count_marked(items, first, n);
+    // `div_ceil` would be five instructions in place of two, here and below
     if msg.len() - at < (bits + 7) / 8 {
         return Err(Cause::Short.at(at));
     }

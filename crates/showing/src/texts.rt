@@ -4,7 +4,7 @@ ghost use Rattle.x696.specs.Editing.{show_text, shown_octets};
 ghost use Rattle.showing.specs.Texts.{contents_size, TextAnswer};
 
 use finding::places::find_in;
-use octets::units::{Bits, octets_of};
+use octets::units::Bits;
 use table::words::row_kind;
 
 // A part of the message.
@@ -19,7 +19,7 @@ fn contents_size(kind: u64, number: u64) -> u64
     ensures { result ≡ contents_size kind number }
 {
     if kind == 8 {
-        return octets_of(Bits(number)).0;
+        return Bits(number).octets().0;
     }
     number
 }

@@ -203,6 +203,7 @@ fn write_sequence(
         return Err(Cause::BadList.at(at));
     }
     let first = row_first(rows, row) as usize;
+    // `div_ceil` would be five instructions in place of two
     let octets = (count_marked(items, first, n as usize) + 7) / 8;
     put_zeros(out, to, octets);
     write_members(

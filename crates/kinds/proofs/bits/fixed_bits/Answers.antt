@@ -8,20 +8,20 @@ use Rattle.kinds.proofs.bits.fixed_bits.Goals as goal
 pub returns-then-msg-at : goal.returns-then-msg-at
 returns-then-msg-at c =
     ran_refused (fixed_lacks _ _ _ _ c.requires.1
-    c.octets_of-filled.ensures c.if-msg-at.true) c.at.ensures
+    c.octets-filled.ensures c.if-msg-at.true) c.at.ensures
 
 pub returns-then-not-low_bits_clear : goal.returns-then-not-low_bits_clear
 returns-then-not-low_bits_clear c =
     ran_refused (fixed_unclear _ _ _ _
     c.requires.1
-    c.octets_of-filled.ensures c.if-msg-at.false
-    c.unused_of.ensures c.low_bits_clear.ensures
+    c.octets-filled.ensures c.if-msg-at.false
+    c.unused.ensures c.low_bits_clear.ensures
     c.if-not-low_bits_clear.true) c.at-then-not-low_bits_clear.ensures
 
 pub returns : goal.returns
 returns c =
     fixed_goes _ _ _ _ c.requires.1
-    c.octets_of-filled.ensures c.if-msg-at.false
-    c.unused_of.ensures c.low_bits_clear.ensures
+    c.octets-filled.ensures c.if-msg-at.false
+    c.unused.ensures c.low_bits_clear.ensures
     c.if-not-low_bits_clear.false c.put_node.ensures
     c.copy.ensures refl

@@ -1,18 +1,15 @@
 -- `put_enumerated` stores the octets of `enumerated_octets`.
 -- Assumes nothing.
+use mathlib.Core.Path.{refl}
 use Rattle.octets.proofs.Puts.{put_enumerated_long, put_enumerated_short}
 use Rattle.octets.proofs.enumerated.put_enumerated.Goals as goal
 
 pub returns-then-w-lt128 : goal.returns-then-w-lt128
 returns-then-w-lt128 c =
     put_enumerated_short _ _ _ _ c.if-w-lt128.true
-    c.put_octet.ensures
+    c.put.ensures
 
 pub returns : goal.returns
 returns c =
-    put_enumerated_long _ _ _ _ _ _
-    c.fewest_signed-k.ensures.2
-    c.put_number.ensures
-    c.fewest_signed-k.ensures.0
-    c.if-w-lt128.false
-    c.put_octet-2.ensures
+    let k = c.fewest_signed-k.ensures in
+    put_enumerated_long _ _ _ _ _ _ _ k.2 c.put_led.ensures k.0 c.if-w-lt128.false refl

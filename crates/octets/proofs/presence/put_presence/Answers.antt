@@ -2,28 +2,19 @@
 -- Assumes nothing.
 use Prim.Native.Nat.{◌+◌, ◌/◌}
 use native.Mathlib.Omega.{arith}
-use Rattle.octets.proofs.Weights.{bit_part, put_set, put_clear}
+use Rattle.octets.proofs.Weights.{put_set, put_clear}
 use Rattle.octets.proofs.presence.put_presence.Goals as goal
-
-pub overflow_mul-bit : goal.overflow_mul-bit
-overflow_mul-bit c = omega (arith, bit_part c.octet-o.result c.weight-w.result, c.octet-o.ensures.1)
-
-pub overflow_sub-o : goal.overflow_sub-o
-overflow_sub-o c = bit_part _ _
-
-pub overflow_sub-o-else-present : goal.overflow_sub-o-else-present
-overflow_sub-o-else-present c = bit_part _ _
 
 pub returns-then-present : goal.returns-then-present
 returns-then-present c =
     let a = c.args in
     put_set a.out.now (a.pre + a.b / 8) _ _ _ _ (omega arith) c.weight-w.ensures.0
     c.octet-o.ensures.0 c.octet-o.ensures.1
-    c.if-present.true c.put_octet.ensures
+    c.if-present.true c.put.ensures
 
 pub returns-else-present : goal.returns-else-present
 returns-else-present c =
     let a = c.args in
     put_clear a.out.now (a.pre + a.b / 8) _ _ _ _ (omega arith) c.weight-w.ensures.0
     c.octet-o.ensures.0 c.octet-o.ensures.1
-    c.if-present.false c.put_octet-else-present.ensures
+    c.if-present.false c.put-else-present.ensures

@@ -1,12 +1,10 @@
 -- `put_signed` stores the octets of `variable_signed`.
 -- Assumes nothing.
+use mathlib.Core.Path.{refl}
 use Rattle.octets.proofs.Puts.{put_variable_signed}
 use Rattle.octets.proofs.variable.put_signed.Goals as goal
 
 pub returns : goal.returns
 returns c =
-    put_variable_signed _ _ _ _ _ _
-    c.fewest_signed-k.ensures.2
-    c.put_number.ensures
-    c.fewest_signed-k.ensures.0
-    c.put_octet.ensures
+    let k = c.fewest_signed-k.ensures in
+    put_variable_signed _ _ _ _ _ _ _ k.2 c.put_led.ensures k.0 refl

@@ -1,34 +1,17 @@
--- A run of octets is copied as far as there is room.
--- The loop's invariant: the first i octets are stored; its measure: the octets left that have room.
+-- A run of octets is copied as far as there is room: none, or what `min` leaves of it.
 -- Assumes nothing.
-use mathlib.Core.Path.{◌≡◌, refl, ◌∙◌}
-use Prim.Native.Nat.{◌+◌, ◌-◌}
-use native.Mathlib.Omega.{arith}
-use lib.Seq.{length-sets}
-use Rattle.octets.proofs.Stores.{copied_on, copied_all}
-use borrow.Author.Rules.{rules}
+use mathlib.Core.Path.{sym}
+use lib.ListN.{take, drop}
+use Rattle.octets.proofs.Stores.{copied, sets_out}
 use Rattle.octets.proofs.words.copy.Goals as goal
 
-pub loop-i-init : goal.loop-i-init
-loop-i-init c = (search rules, refl, refl)
-
-pub loop-i-preserved : goal.loop-i-preserved
-loop-i-preserved c =
+pub returns-then-to-out : goal.returns-then-to-out
+returns-then-to-out c =
     let a = c.args in
-    let b = c.copy_block.ensures in (
-      omega arith,
-      b ∙ copied_on a.from.now a.out.now _ a.start a.to c.loop-i.i 32 (omega arith) c.loop-i.invariant.1,
-      rw (b, length-sets) c.loop-i.invariant.2,
-    )
+    copied a.from.now a.out.now a.start a.to a.n _ c.requires c.if-to-out.true c.min-m.ensures
+    c.copy_from_slice.ensures.after
 
-pub returns : goal.returns
-returns c =
+pub returns-else-to-out : goal.returns-else-to-out
+returns-else-to-out c =
     let a = c.args in
-    let m = c.room_for-m.result in
-    let e : c.loop-i.i + (m - c.loop-i.i) ≡ m = omega arith in
-    copied_all a.from.now a.out.now _ a.start a.to a.n m (omega arith) (omega arith)
-    (λ h. omega (arith, c.room_for-m.ensures.2 (omega arith)))
-    (c.copy_all.ensures
-    ∙ copied_on a.from.now a.out.now _ a.start a.to c.loop-i.i (m - c.loop-i.i) (omega arith)
-    c.loop-i.invariant.1
-    ∙ rw e refl)
+    sym (sets_out (take a.n (drop a.start a.from.now)) _ a.to c.if-to-out.false)

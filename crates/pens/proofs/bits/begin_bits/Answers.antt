@@ -5,28 +5,28 @@ use Rattle.pens.proofs.bits.begin_bits.Goals as goal
 
 pub returns-then-contents-used : goal.returns-then-contents-used
 returns-then-contents-used c =
-    lacking (bits_tested _ _ _ _ c.octets_of-whole.ensures refl) _
+    lacking (bits_tested _ _ _ _ c.octets-whole.ensures refl) _
     c.requires.0 c.if-contents-used.true
 
 pub returns-then-not-low_bits_clear : goal.returns-then-not-low_bits_clear
 returns-then-not-low_bits_clear c =
-    unclear (bits_tested _ _ _ _ c.octets_of-whole.ensures
-    c.unused_of.ensures) _
+    unclear (bits_tested _ _ _ _ c.octets-whole.ensures
+    c.unused.ensures) _
     c.requires.0
     c.if-contents-used.false
     c.low_bits_clear.ensures c.if-not-low_bits_clear.true
 
 pub returns-then-not-is_sized : goal.returns-then-not-is_sized
 returns-then-not-is_sized c =
-    unsized (bits_tested _ _ _ _ c.octets_of-whole.ensures
-    c.unused_of.ensures) _ c.requires.0
+    unsized (bits_tested _ _ _ _ c.octets-whole.ensures
+    c.unused.ensures) _ c.requires.0
     c.if-contents-used.false
     c.low_bits_clear.ensures c.if-not-low_bits_clear.false
     c.is_sized.ensures c.if-not-is_sized.true
 
 pub returns : goal.returns
 returns c =
-    begins (bits_tested _ _ _ _ c.octets_of-whole.ensures c.unused_of.ensures) _
+    begins (bits_tested _ _ _ _ c.octets-whole.ensures c.unused.ensures) _
     c.requires.0 c.if-contents-used.false
     c.low_bits_clear.ensures c.if-not-low_bits_clear.false
     c.is_sized.ensures c.if-not-is_sized.false

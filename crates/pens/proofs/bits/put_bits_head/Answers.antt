@@ -8,6 +8,6 @@ returns-then-is_fixed c = bits_fixed _ _ _ _ c.is_fixed.ensures c.if-is_fixed.tr
 pub returns : goal.returns
 returns c =
     bits_counted _ _ _ _ c.is_fixed.ensures c.if-is_fixed.false
-    c.octets_of-filled.ensures c.unused_of.ensures
+    c.octets-filled.ensures c.unused.ensures
     c.put_length-next.ensures
-    c.put_octet.ensures
+    c.put.ensures

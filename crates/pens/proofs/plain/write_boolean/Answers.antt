@@ -9,4 +9,4 @@ returns-then-n-gt1 c = misformed (boolean_checked _) (unformed c.if-n-gt1.true)
 pub returns : goal.returns
 returns c =
     goes (boolean_checked _) (formed c.if-n-gt1.false) refl refl (stored_octet
-    c.put_octet.ensures)
+    c.put.ensures)

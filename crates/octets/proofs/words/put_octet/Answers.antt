@@ -1,8 +1,0 @@
--- A store of an octet at k, and none past the end.
--- Assumes nothing.
-use mathlib.Core.Path.{sym}
-use lib.Seq.{set_out}
-use Rattle.octets.proofs.words.put_octet.Goals as goal
-
-pub returns-else-k-out : goal.returns-else-k-out
-returns-else-k-out c = sym (set_out _ _ _ c.if-k-out.false)
