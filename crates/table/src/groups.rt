@@ -6,12 +6,11 @@ ghost use Rattle.x696.specs.TableCheck.{alternative_sound, tag_before, choice_so
 ghost use Rattle.x696.specs.TableFault.{row_sound};
 ghost use Rattle.table.specs.Orders.{SoundBelow};
 
-use crate::bounds::is_allowed;
 use crate::numbers::is_listed;
 use crate::rules::{no_bounds, range_inside, rest_zero};
 use crate::words::{
-    alternative_row, component_default, component_mark, component_row, row_a, row_b, row_count,
-    row_first, row_flags, row_kind, tag_class, tag_number,
+    alternative_row, component_default, component_mark, component_row, row_bounds, row_count,
+    row_first, row_kind, tag_class, tag_number,
 };
 
 // Whether d is a DEFAULT of row k: kinds 1, 2 and 3 (an allowed value) and 11 (0, the empty list).
@@ -22,7 +21,7 @@ fn default_sound(rows: &[u64], items: &[u64], k: usize, d: u64) -> bool
 {
     match row_kind(rows, k) {
         1 => d < 2,
-        2 => is_allowed(row_flags(rows, k), row_a(rows, k), row_b(rows, k), d),
+        2 => row_bounds(rows, k).allows(d),
         3 => is_listed(
             items,
             row_first(rows, k) as usize,

@@ -2,12 +2,11 @@
 ghost use Rattle.std.specs.Prelude.{◌≡◌, ◌||◌, eqb, ◌+◌, ◌*◌, ◌/◌, ◌<◌, ◌≤◌, length};
 ghost use Rattle.x696.specs.Table.{row_width, item_width, rest_zero};
 ghost use Rattle.x696.specs.TableCheck.{every, ascending, no_bounds, no_range, range_inside, integer_sound, enumerated_sound, string_sound};
-ghost use Rattle.table.specs.Orders.{rank_before, bounds_ordered, sizes_ordered};
+ghost use Rattle.table.specs.Orders.{rank_before};
 
-use crate::bounds::{has_lower, has_upper, is_unsigned};
 use crate::words::{
-    component_default, component_mark, enumerated_number, items_in, row_a, row_b, row_count,
-    row_first, row_flags,
+    component_default, component_mark, enumerated_number, items_in, row_bounds, row_count,
+    row_first,
 };
 use octets::numbers::rank_of;
 
@@ -17,7 +16,8 @@ pub fn no_bounds(rows: &[u64], items: &[u64], row: usize) -> bool
     requires { row < length rows.now / row_width }
     ensures { result ≡ no_bounds rows.now items.now row }
 {
-    row_flags(rows, row) == 0 && row_a(rows, row) == 0 && row_b(rows, row) == 0
+    let bounds = row_bounds(rows, row);
+    bounds.flags == 0 && bounds.a == 0 && bounds.b == 0
 }
 
 // First item and item count are 0.
@@ -40,34 +40,17 @@ pub fn range_inside(rows: &[u64], items: &[u64], row: usize) -> bool
     first <= n && row_count(rows, row) <= n - first
 }
 
-// A at most B, as numbers, where both are present.
-fn bounds_ordered(flags: u64, a: u64, b: u64) -> bool
-    ensures { result ≡ bounds_ordered flags a b }
-{
-    if !has_lower(flags) || !has_upper(flags) {
-        return true;
-    }
-    let unsigned = is_unsigned(flags, a);
-    if unsigned {
-        a <= b
-    } else {
-        rank_of(a) <= rank_of(b)
-    }
-}
-
 // Kind 2.
 #[tactic(auto, unfolding(x696::specs::TableCheck::integer_sound, x696::specs::TableCheck::given, x696::specs::Outcome::choose))]
 pub fn integer_sound(rows: &[u64], items: &[u64], row: usize) -> bool
     requires { row < length rows.now / row_width }
     ensures { result ≡ integer_sound rows.now items.now row }
 {
-    let flags = row_flags(rows, row);
-    let a = row_a(rows, row);
-    let b = row_b(rows, row);
-    flags < 4
-        && (has_lower(flags) || a == 0)
-        && (has_upper(flags) || b == 0)
-        && bounds_ordered(flags, a, b)
+    let bounds = row_bounds(rows, row);
+    bounds.flags < 4
+        && (bounds.has_lower() || bounds.a == 0)
+        && (bounds.has_upper() || bounds.b == 0)
+        && bounds.is_ordered()
         && no_range(rows, items, row)
 }
 
@@ -77,21 +60,12 @@ pub fn string_sound(rows: &[u64], items: &[u64], row: usize) -> bool
     requires { row < length rows.now / row_width }
     ensures { result ≡ string_sound rows.now items.now row }
 {
-    let flags = row_flags(rows, row);
-    let a = row_a(rows, row);
-    let b = row_b(rows, row);
-    (flags == 0 || flags == 2)
-        && a <= 65535
-        && b <= 65535
-        && sizes_ordered(flags, a, b)
+    let bounds = row_bounds(rows, row);
+    (bounds.flags == 0 || bounds.flags == 2)
+        && bounds.a <= 65535
+        && bounds.b <= 65535
+        && bounds.has_ordered_sizes()
         && no_range(rows, items, row)
-}
-
-// A at most B where B is present; else B is 0.
-fn sizes_ordered(flags: u64, a: u64, b: u64) -> bool
-    ensures { result ≡ sizes_ordered flags a b }
-{
-    if has_upper(flags) { a <= b } else { b == 0 }
 }
 
 // The words that an ENUMERATED's and a SEQUENCE OF's item do not use are 0.

@@ -4,6 +4,8 @@ ghost use Rattle.x696.specs.Table.{row_width, row_word, row_kind, row_flags, row
 ghost use Rattle.x696.specs.Table.{item_width, item_word, enumerated_number, component_row, component_mark, component_default};
 ghost use Rattle.x696.specs.Table.{tag_class, tag_number, alternative_row};
 
+use crate::bounds::Bounds;
+
 // Which word of an item names a row: of a SEQUENCE's or a SEQUENCE OF's, and of a CHOICE's.
 pub const COMPONENT_ROW: usize = 0;
 
@@ -43,25 +45,15 @@ pub fn row_kind(rows: &[u64], row: usize) -> u64
     row_word(rows, row, 0)
 }
 
-pub fn row_flags(rows: &[u64], row: usize) -> u64
+pub fn row_bounds(rows: &[u64], row: usize) -> Bounds
     requires { row < length rows.now / row_width }
-    ensures { result ≡ row_flags rows.now row }
+    ensures { (result.flags ≡ row_flags rows.now row) × (result.a ≡ row_a rows.now row) × (result.b ≡ row_b rows.now row) }
 {
-    row_word(rows, row, 1)
-}
-
-pub fn row_a(rows: &[u64], row: usize) -> u64
-    requires { row < length rows.now / row_width }
-    ensures { result ≡ row_a rows.now row }
-{
-    row_word(rows, row, 2)
-}
-
-pub fn row_b(rows: &[u64], row: usize) -> u64
-    requires { row < length rows.now / row_width }
-    ensures { result ≡ row_b rows.now row }
-{
-    row_word(rows, row, 3)
+    Bounds {
+        flags: row_word(rows, row, 1),
+        a: row_word(rows, row, 2),
+        b: row_word(rows, row, 3),
+    }
 }
 
 pub fn row_first(rows: &[u64], row: usize) -> u64
