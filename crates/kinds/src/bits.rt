@@ -11,7 +11,7 @@ use octets::nodes::put_node;
 use octets::presence::low_bits_clear;
 use octets::units::Bits;
 use octets::words::{copy, octet};
-use table::bounds::{is_fixed, is_sized};
+use table::bounds::Bounds;
 
 // A fixed size (13.2).
 fn fixed_bits(
@@ -48,9 +48,7 @@ fn fixed_bits(
 // The n octets from `start` on that a determinant counts: the unused-bits octet and the contents (13.3).
 // Their bits are counted in a word: a message has at most 65,535 octets.
 fn bits_in(
-    flags: u64,
-    a: u64,
-    b: u64,
+    bounds: Bounds,
     msg: &[u8],
     at: usize,
     start: usize,
@@ -61,7 +59,7 @@ fn bits_in(
     contents: &mut [u8],
 ) -> Result<Cursor, Fault>
     requires { (count < 4096) × (at ≤ start) × (start + n ≤ length msg.now) × (used ≤ at) × (length msg.now ≤ 65535) }
-    ensures { Ran msg.now (bits_run_at flags a b msg.now at start n count) at count used nodes.old contents.old nodes.new contents.new result }
+    ensures { Ran msg.now (bits_run_at bounds.flags bounds.a bounds.b msg.now at start n count) at count used nodes.old contents.old nodes.new contents.new result }
 {
     // the unused-bits octet is there (13.3.1), 0 to 7 (13.3.2)
     if n == 0 {
@@ -81,7 +79,7 @@ fn bits_in(
         return Err(Cause::NotCanonical.at(at));
     }
     let size = k as u64 * 8 - unused;
-    if !is_sized(flags, a, b, size) {
+    if !bounds.allows_size(size) {
         return Err(Cause::NotAllowed.at(at));
     }
     put_node(nodes, count, 8, size);
@@ -95,9 +93,7 @@ fn bits_in(
 }
 
 pub fn read_bits(
-    flags: u64,
-    a: u64,
-    b: u64,
+    bounds: Bounds,
     msg: &[u8],
     at: usize,
     count: usize,
@@ -106,16 +102,14 @@ pub fn read_bits(
     contents: &mut [u8],
 ) -> Result<Cursor, Fault>
     requires { (count < 4096) × (at ≤ length msg.now) × (used ≤ at) × (length msg.now ≤ 65535) }
-    ensures { Ran msg.now (leaf_at (bit_string flags a b) msg.now at count) at count used nodes.old contents.old nodes.new contents.new result }
+    ensures { Ran msg.now (leaf_at (bit_string bounds.flags bounds.a bounds.b) msg.now at count) at count used nodes.old contents.old nodes.new contents.new result }
 {
-    if is_fixed(flags, a, b) {
-        return fixed_bits(Bits(a), msg, at, count, used, nodes, contents);
+    if bounds.is_fixed() {
+        return fixed_bits(Bits(bounds.a), msg, at, count, used, nodes, contents);
     }
     let run = read_run(msg, at, at)?;
     bits_in(
-        flags,
-        a,
-        b,
+        bounds,
         msg,
         at,
         run.start,

@@ -11,7 +11,7 @@ use octets::answers::Number;
 use octets::faults::{Cause, Fault};
 use octets::numbers::{read_number, sign_extend};
 use octets::variable::{read_signed, read_unsigned};
-use table::bounds::{has_lower, has_upper, is_allowed, is_unsigned};
+use table::bounds::Bounds;
 
 // The number that k octets hold: one or two without a loop.
 fn number_at(msg: &[u8], at: usize, k: usize) -> u64
@@ -55,31 +55,31 @@ fn fixed_signed(msg: &[u8], at: usize, k: usize) -> Result<Number, Fault>
 }
 
 // By the form that the bounds give (10.3, 10.4).
-fn read_form(flags: u64, a: u64, b: u64, msg: &[u8], at: usize) -> Result<Number, Fault>
+fn read_form(bounds: Bounds, msg: &[u8], at: usize) -> Result<Number, Fault>
     requires { at ≤ length msg.now }
-    ensures { NumberAnswer msg.now (read_form (integer_form flags a b) at (drop at msg.now)) at result }
+    ensures { NumberAnswer msg.now (read_form (integer_form bounds.flags bounds.a bounds.b) at (drop at msg.now)) at result }
 {
-    if is_unsigned(flags, a) {
-        if has_upper(flags) {
-            return fixed_unsigned(msg, at, unsigned_width(b));
+    if bounds.is_unsigned() {
+        if bounds.has_upper() {
+            return fixed_unsigned(msg, at, unsigned_width(bounds.b));
         }
         return read_unsigned(msg, at, at);
     }
-    if !has_lower(flags) {
+    if !bounds.has_lower() {
         return read_signed(msg, at, at);
     }
-    if !has_upper(flags) {
+    if !bounds.has_upper() {
         return read_signed(msg, at, at);
     }
-    fixed_signed(msg, at, signed_width(a, b))
+    fixed_signed(msg, at, signed_width(bounds.a, bounds.b))
 }
 
-pub fn read_integer(flags: u64, a: u64, b: u64, msg: &[u8], at: usize) -> Result<Number, Fault>
+pub fn read_integer(bounds: Bounds, msg: &[u8], at: usize) -> Result<Number, Fault>
     requires { at ≤ length msg.now }
-    ensures { (count : ℕ) → ScalarAnswer msg.now (leaf_at (integer flags a b) msg.now at count) 2 at count result }
+    ensures { (count : ℕ) → ScalarAnswer msg.now (leaf_at (integer bounds.flags bounds.a bounds.b) msg.now at count) 2 at count result }
 {
-    let n = read_form(flags, a, b, msg, at)?;
-    if !is_allowed(flags, a, b, n.value) {
+    let n = read_form(bounds, msg, at)?;
+    if !bounds.allows(n.value) {
         return Err(Cause::NotAllowed.at(at));
     }
     Ok(n)

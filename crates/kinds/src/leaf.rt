@@ -13,7 +13,7 @@ use crate::real::{read_double, read_single};
 use crate::text::{read_octets, read_visible};
 use octets::answers::Number;
 use octets::faults::{Cause, Fault};
-use table::words::{row_a, row_b, row_count, row_first, row_flags, row_kind};
+use table::words::{row_bounds, row_count, row_first, row_kind};
 
 // Kinds 1 to 6: a number, and where the next octet stands. The caller stores the node.
 pub fn read_scalar(
@@ -31,13 +31,7 @@ pub fn read_scalar(
         return read_boolean(msg, at);
     }
     if kind == 2 {
-        return read_integer(
-            row_flags(rows, row),
-            row_a(rows, row),
-            row_b(rows, row),
-            msg,
-            at,
-        );
+        return read_integer(row_bounds(rows, row), msg, at);
     }
     if kind == 3 {
         return read_listed(
@@ -74,14 +68,12 @@ pub fn read_string(
     ensures { Ran msg.now (inside_at (type_of rows.now items.now row) msg.now at count) at count used nodes.old contents.old nodes.new contents.new result }
 {
     let kind = row_kind(rows, row);
-    let flags = row_flags(rows, row);
-    let a = row_a(rows, row);
-    let b = row_b(rows, row);
+    let bounds = row_bounds(rows, row);
     if kind == 7 {
-        return read_octets(flags, a, b, msg, at, count, used, nodes, contents);
+        return read_octets(bounds, msg, at, count, used, nodes, contents);
     }
     if kind == 8 {
-        return read_bits(flags, a, b, msg, at, count, used, nodes, contents);
+        return read_bits(bounds, msg, at, count, used, nodes, contents);
     }
-    read_visible(flags, a, b, msg, at, count, used, nodes, contents)
+    read_visible(bounds, msg, at, count, used, nodes, contents)
 }

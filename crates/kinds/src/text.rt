@@ -11,24 +11,22 @@ use octets::lengths::{read_run, run_at};
 use octets::nodes::put_node;
 use octets::strings::is_visible;
 use octets::words::copy;
-use table::bounds::{is_fixed, is_sized};
+use table::bounds::Bounds;
 
 // The contents: alone where the size is fixed (14.1), else behind a length determinant (14.2).
-fn run_of(flags: u64, a: u64, b: u64, msg: &[u8], at: usize) -> Result<Piece, Fault>
+fn run_of(bounds: Bounds, msg: &[u8], at: usize) -> Result<Piece, Fault>
     requires { at ≤ length msg.now }
-    ensures { RunAnswer msg.now (text_run flags a b at (drop at msg.now)) at result }
+    ensures { RunAnswer msg.now (text_run bounds.flags bounds.a bounds.b at (drop at msg.now)) at result }
 {
-    if is_fixed(flags, a, b) {
-        run_at(msg, at, a, at)
+    if bounds.is_fixed() {
+        run_at(msg, at, bounds.a, at)
     } else {
         read_run(msg, at, at)
     }
 }
 
 pub fn read_octets(
-    flags: u64,
-    a: u64,
-    b: u64,
+    bounds: Bounds,
     msg: &[u8],
     at: usize,
     count: usize,
@@ -37,11 +35,11 @@ pub fn read_octets(
     contents: &mut [u8],
 ) -> Result<Cursor, Fault>
     requires { (count < 4096) × (at ≤ length msg.now) × (used ≤ at) }
-    ensures { Ran msg.now (leaf_at (octet_string flags a b) msg.now at count) at count used nodes.old contents.old nodes.new contents.new result }
+    ensures { Ran msg.now (leaf_at (octet_string bounds.flags bounds.a bounds.b) msg.now at count) at count used nodes.old contents.old nodes.new contents.new result }
 {
-    let run = run_of(flags, a, b, msg, at)?;
+    let run = run_of(bounds, msg, at)?;
     let n = run.length.0;
-    if !is_sized(flags, a, b, n) {
+    if !bounds.allows_size(n) {
         return Err(Cause::NotAllowed.at(at));
     }
     put_node(nodes, count, 7, n);
@@ -55,9 +53,7 @@ pub fn read_octets(
 }
 
 pub fn read_visible(
-    flags: u64,
-    a: u64,
-    b: u64,
+    bounds: Bounds,
     msg: &[u8],
     at: usize,
     count: usize,
@@ -66,11 +62,11 @@ pub fn read_visible(
     contents: &mut [u8],
 ) -> Result<Cursor, Fault>
     requires { (count < 4096) × (at ≤ length msg.now) × (used ≤ at) }
-    ensures { Ran msg.now (leaf_at (visible_string flags a b) msg.now at count) at count used nodes.old contents.old nodes.new contents.new result }
+    ensures { Ran msg.now (leaf_at (visible_string bounds.flags bounds.a bounds.b) msg.now at count) at count used nodes.old contents.old nodes.new contents.new result }
 {
-    let run = run_of(flags, a, b, msg, at)?;
+    let run = run_of(bounds, msg, at)?;
     let n = run.length.0;
-    if !is_sized(flags, a, b, n) {
+    if !bounds.allows_size(n) {
         return Err(Cause::NotAllowed.at(at));
     }
     if !is_visible(msg, run.start, n as usize) {

@@ -10,15 +10,15 @@ use octets::lengths::put_length;
 use octets::presence::low_bits_clear;
 use octets::units::{Bits, Octets};
 use octets::words::put;
-use table::bounds::{is_fixed, is_sized};
+use table::bounds::Bounds;
 
 // Nothing before contents of a fixed size (13.2), else the determinant of one octet more than they fill, and the
 // unused-bits octet (13.3.1, 13.3.2).
-fn put_bits_head(flags: u64, a: u64, b: u64, size: Bits, to: usize, out: &mut [u8]) -> usize
+fn put_bits_head(bounds: Bounds, size: Bits, to: usize, out: &mut [u8]) -> usize
     requires { (to < 2 ^ 40) × (bit_octets size.0 < 2 ^ 40) }
-    ensures { Stored out.old out.new to result (bits_head flags a b size.0) }
+    ensures { Stored out.old out.new to result (bits_head bounds.flags bounds.a bounds.b size.0) }
 {
-    if is_fixed(flags, a, b) {
+    if bounds.is_fixed() {
         return to;
     }
     let filled = size.octets();
@@ -28,9 +28,7 @@ fn put_bits_head(flags: u64, a: u64, b: u64, size: Bits, to: usize, out: &mut [u
 }
 
 pub fn begin_bits(
-    flags: u64,
-    a: u64,
-    b: u64,
+    bounds: Bounds,
     n: u64,
     contents: &[u8],
     used: usize,
@@ -38,7 +36,7 @@ pub fn begin_bits(
     out: &mut [u8],
 ) -> Result<Head, Cause>
     requires { (used ≤ length contents.now) × (length contents.now ≤ 65535) × (to < 2 ^ 40) }
-    ensures { Headed (bit_string flags a b) contents.now n used to out.old out.new result }
+    ensures { Headed (bit_string bounds.flags bounds.a bounds.b) contents.now n used to out.old out.new result }
 {
     let size = Bits(n);
     let whole = size.octets();
@@ -50,11 +48,11 @@ pub fn begin_bits(
     if !low_bits_clear(contents, used, filled as usize, size.unused() as usize) {
         return Err(Cause::BadList);
     }
-    if !is_sized(flags, a, b, n) {
+    if !bounds.allows_size(n) {
         return Err(Cause::NotAllowed);
     }
     Ok(Head {
         filled: filled as usize,
-        to: put_bits_head(flags, a, b, size, to, out),
+        to: put_bits_head(bounds, size, to, out),
     })
 }

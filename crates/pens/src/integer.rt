@@ -8,55 +8,48 @@ use kinds::widths::{signed_width, unsigned_width};
 use octets::faults::Cause;
 use octets::numbers::put_number;
 use octets::variable::{put_signed, put_unsigned};
-use table::bounds::{has_lower, has_upper, is_allowed, is_unsigned};
+use table::bounds::Bounds;
 
 // How many octets a number has by its bounds, and not by its value (10.3 a to d, 10.4 a to d); 0 where that varies.
-fn fixed_width(flags: u64, a: u64, b: u64) -> usize
-    ensures { (result ≡ form_width (integer_form flags a b)) × (result ≤ 8) }
+fn fixed_width(bounds: Bounds) -> usize
+    ensures { (result ≡ form_width (integer_form bounds.flags bounds.a bounds.b)) × (result ≤ 8) }
 {
-    if !has_upper(flags) {
+    if !bounds.has_upper() {
         return 0;
     }
-    if is_unsigned(flags, a) {
-        return unsigned_width(b);
+    if bounds.is_unsigned() {
+        return unsigned_width(bounds.b);
     }
-    if has_lower(flags) {
-        signed_width(a, b)
+    if bounds.has_lower() {
+        signed_width(bounds.a, bounds.b)
     } else {
         0
     }
 }
 
 // Its octets by the form that the bounds give.
-fn put_form(flags: u64, a: u64, b: u64, n: u64, to: usize, out: &mut [u8]) -> usize
+fn put_form(bounds: Bounds, n: u64, to: usize, out: &mut [u8]) -> usize
     requires { to < 2 ^ 40 }
-    ensures { Stored out.old out.new to result (form_octets (integer_form flags a b) n) }
+    ensures { Stored out.old out.new to result (form_octets (integer_form bounds.flags bounds.a bounds.b) n) }
 {
-    let k = fixed_width(flags, a, b);
+    let k = fixed_width(bounds);
     if k != 0 {
         put_number(out, to, k, n);
         return to + k;
     }
-    if is_unsigned(flags, a) {
+    if bounds.is_unsigned() {
         put_unsigned(out, to, n)
     } else {
         put_signed(out, to, n)
     }
 }
 
-pub fn write_integer(
-    flags: u64,
-    a: u64,
-    b: u64,
-    n: u64,
-    to: usize,
-    out: &mut [u8],
-) -> Result<usize, Cause>
+pub fn write_integer(bounds: Bounds, n: u64, to: usize, out: &mut [u8]) -> Result<usize, Cause>
     requires { to < 2 ^ 40 }
-    ensures { Numbered (integer flags a b) n to out.old out.new result }
+    ensures { Numbered (integer bounds.flags bounds.a bounds.b) n to out.old out.new result }
 {
-    if !is_allowed(flags, a, b, n) {
+    if !bounds.allows(n) {
         return Err(Cause::NotAllowed);
     }
-    Ok(put_form(flags, a, b, n, to, out))
+    Ok(put_form(bounds, n, to, out))
 }

@@ -17,7 +17,7 @@ use crate::real::{write_double, write_single};
 use crate::text::begin_text;
 use octets::faults::{Cause, Fault};
 use octets::words::copy;
-use table::words::{row_a, row_b, row_count, row_first, row_flags, row_kind};
+use table::words::{row_bounds, row_count, row_first, row_kind};
 
 // A number: kinds 1 to 6, which have no contents.
 fn write_number(
@@ -54,14 +54,7 @@ fn write_number(
     if kind == 6 {
         return write_null(n, to);
     }
-    write_integer(
-        row_flags(rows, row),
-        row_a(rows, row),
-        row_b(rows, row),
-        n,
-        to,
-        out,
-    )
+    write_integer(row_bounds(rows, row), n, to, out)
 }
 
 // What stands before a string's contents: kinds 7 to 9.
@@ -79,13 +72,11 @@ fn begin_string(
     requires { (row < length rows.now / row_width) × (kind ≡ row_kind rows.now row) × (7 ≤ kind) × (kind < 10) × (used ≤ length contents.now) × (length contents.now ≤ 65535) × (to < 2 ^ 40) }
     ensures { RowHeaded (type_of rows.now items.now row) contents.now n used to out.old out.new result }
 {
-    let flags = row_flags(rows, row);
-    let a = row_a(rows, row);
-    let b = row_b(rows, row);
+    let bounds = row_bounds(rows, row);
     if kind == 8 {
-        return begin_bits(flags, a, b, n, contents, used, to, out);
+        return begin_bits(bounds, n, contents, used, to, out);
     }
-    begin_text(kind == 9, flags, a, b, n, contents, used, to, out)
+    begin_text(kind == 9, bounds, n, contents, used, to, out)
 }
 
 // The octets of a value of kinds 1 to 9, behind its node `at` of that kind, which has this number.

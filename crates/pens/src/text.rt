@@ -9,7 +9,7 @@ use octets::faults::Cause;
 use octets::lengths::put_length;
 use octets::strings::is_visible;
 use octets::units::Octets;
-use table::bounds::{is_fixed, is_sized};
+use table::bounds::Bounds;
 
 // Whether the n octets from `used` on are characters of the string's type.
 fn has_characters(shown: bool, contents: &[u8], used: usize, n: usize) -> bool
@@ -24,11 +24,11 @@ fn has_characters(shown: bool, contents: &[u8], used: usize, n: usize) -> bool
 }
 
 // Nothing before contents of a fixed size (14.1), else their length determinant (14.2).
-fn put_text_head(flags: u64, a: u64, b: u64, n: u64, to: usize, out: &mut [u8]) -> usize
+fn put_text_head(bounds: Bounds, n: u64, to: usize, out: &mut [u8]) -> usize
     requires { to < 2 ^ 40 }
-    ensures { Stored out.old out.new to result (text_head flags a b n) }
+    ensures { Stored out.old out.new to result (text_head bounds.flags bounds.a bounds.b n) }
 {
-    if is_fixed(flags, a, b) {
+    if bounds.is_fixed() {
         return to;
     }
     put_length(out, to, Octets(n))
@@ -36,9 +36,7 @@ fn put_text_head(flags: u64, a: u64, b: u64, n: u64, to: usize, out: &mut [u8]) 
 
 pub fn begin_text(
     shown: bool,
-    flags: u64,
-    a: u64,
-    b: u64,
+    bounds: Bounds,
     n: u64,
     contents: &[u8],
     used: usize,
@@ -46,12 +44,12 @@ pub fn begin_text(
     out: &mut [u8],
 ) -> Result<Head, Cause>
     requires { (used ≤ length contents.now) × (to < 2 ^ 40) }
-    ensures { Headed (text_leaf shown flags a b) contents.now n used to out.old out.new result }
+    ensures { Headed (text_leaf shown bounds.flags bounds.a bounds.b) contents.now n used to out.old out.new result }
 {
     if ((contents.len() - used) as u64) < n {
         return Err(Cause::BadList);
     }
-    if !is_sized(flags, a, b, n) {
+    if !bounds.allows_size(n) {
         return Err(Cause::NotAllowed);
     }
     if !has_characters(shown, contents, used, n as usize) {
@@ -59,6 +57,6 @@ pub fn begin_text(
     }
     Ok(Head {
         filled: n as usize,
-        to: put_text_head(flags, a, b, n, to, out),
+        to: put_text_head(bounds, n, to, out),
     })
 }

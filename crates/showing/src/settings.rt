@@ -6,8 +6,8 @@ ghost use Rattle.showing.specs.Settings.{integer_setting, kind_setting, setting_
 use crate::numbers::{double_of, signed_of, single_of};
 use finding::places::find_in;
 use octets::faults::Refusal;
-use table::bounds::is_unsigned;
-use table::words::{row_a, row_flags, row_kind};
+use table::bounds::Bounds;
+use table::words::{row_bounds, row_kind};
 
 #[derive(Clone, Copy)]
 pub enum Setting {
@@ -22,10 +22,10 @@ pub enum Setting {
 }
 
 // INTEGER is unsigned or signed by its type, not by its value.
-fn integer_setting(flags: u64, a: u64, number: u64) -> Setting
-    ensures { result ≡ setting_as (integer_setting flags a number) }
+fn integer_setting(bounds: Bounds, number: u64) -> Setting
+    ensures { result ≡ setting_as (integer_setting bounds.flags bounds.a number) }
 {
-    if is_unsigned(flags, a) {
+    if bounds.is_unsigned() {
         Setting::Unsigned(number)
     } else {
         Setting::Signed(signed_of(number))
@@ -33,13 +33,13 @@ fn integer_setting(flags: u64, a: u64, number: u64) -> Setting
 }
 
 // The setting of a value that is there, by its row's kind.
-fn setting_of(kind: u64, flags: u64, a: u64, number: u64) -> Setting
+fn setting_of(kind: u64, bounds: Bounds, number: u64) -> Setting
     requires { kind ≡ 4 → number < 2 ^ 32 }
-    ensures { result ≡ setting_as (kind_setting kind flags a number) }
+    ensures { result ≡ setting_as (kind_setting kind bounds.flags bounds.a number) }
 {
     match kind {
         1 => Setting::Truth(number == 1),
-        2 => integer_setting(flags, a, number),
+        2 => integer_setting(bounds, number),
         3 => Setting::Signed(signed_of(number)),
         4 => Setting::Single(single_of(number as u32)),
         5 => Setting::Double(double_of(number)),
@@ -70,8 +70,7 @@ pub fn read_setting(
     }
     Ok(setting_of(
         row_kind(rows, s.row),
-        row_flags(rows, s.row),
-        row_a(rows, s.row),
+        row_bounds(rows, s.row),
         s.number,
     ))
 }

@@ -35,14 +35,14 @@ returns-then-not-low_bits_clear c =
 pub overflow_mul-size : goal.overflow_mul-size
 overflow_mul-size c = omega (arith, c.requires)
 
-pub returns-then-not-is_sized : goal.returns-then-not-is_sized
-returns-then-not-is_sized c =
+pub returns-then-not-allows_size : goal.returns-then-not-allows_size
+returns-then-not-allows_size c =
     ran_refused (bits_unsized _ _ _ _ _ _ _ _ c.if-n-eq0.false c.requires.2
     c.octet-unused.ensures.0
     c.if-unused-gt7.false
     c.if-k-unused.false c.low_bits_clear.ensures
-    c.if-not-low_bits_clear.false c.is_sized.ensures
-    c.if-not-is_sized.true) c.at-then-not-is_sized.ensures
+    c.if-not-low_bits_clear.false c.allows_size.ensures
+    c.if-not-allows_size.true) c.at-then-not-allows_size.ensures
 
 pub returns : goal.returns
 returns c =
@@ -51,6 +51,6 @@ returns c =
     c.if-unused-gt7.false
     c.if-k-unused.false
     c.low_bits_clear.ensures c.if-not-low_bits_clear.false
-    c.is_sized.ensures c.requires.1
-    c.if-not-is_sized.false c.put_node.ensures
+    c.allows_size.ensures c.requires.1
+    c.if-not-allows_size.false c.put_node.ensures
     c.copy.ensures refl

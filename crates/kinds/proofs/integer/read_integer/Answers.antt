@@ -4,12 +4,12 @@ use mathlib.Core.Path.{refl}
 use Rattle.kinds.proofs.Numbered.{integer_tested, tested_stops, tested_refuses, tested_goes}
 use Rattle.kinds.proofs.integer.read_integer.Goals as goal
 
-pub returns-then-not-is_allowed : goal.returns-then-not-is_allowed
-returns-then-not-is_allowed c =
+pub returns-then-not-allows : goal.returns-then-not-allows
+returns-then-not-allows c =
     λ n.
     tested_refuses (integer_tested _ _ _ c.requires _ _ _) c.read_form.ensures _ c.in_ok-n.was
-    c.is_allowed.ensures
-    c.if-not-is_allowed.true c.at.ensures
+    c.allows.ensures
+    c.if-not-allows.true c.at.ensures
 
 pub returns-in_err-n : goal.returns-in_err-n
 returns-in_err-n c =
@@ -20,5 +20,5 @@ pub returns : goal.returns
 returns c =
     λ n.
     tested_goes (integer_tested _ _ _ c.requires _ _ _) c.read_form.ensures _ c.in_ok-n.was
-    c.is_allowed.ensures
-    c.if-not-is_allowed.false refl
+    c.allows.ensures
+    c.if-not-allows.false refl

@@ -16,8 +16,8 @@ returns-then-kind-eq1 c =
 pub returns-then-kind-eq2 : goal.returns-then-kind-eq2
 returns-then-kind-eq2 c =
     λ n.
-    scalar_row _ _ _ (integer_type _ _ _ c.row_kind-kind.ensures c.row_flags.ensures c.row_a.ensures
-    c.row_b.ensures c.if-kind-eq2.true) (sym c.row_kind-kind.ensures ∙ c.if-kind-eq2.true)
+    scalar_row _ _ _ (integer_type _ _ _ c.row_kind-kind.ensures c.row_bounds.ensures.0 c.row_bounds.ensures.1
+    c.row_bounds.ensures.2 c.if-kind-eq2.true) (sym c.row_kind-kind.ensures ∙ c.if-kind-eq2.true)
     (c.read_integer.ensures n)
 
 pub read_listed-requires : goal.read_listed-requires

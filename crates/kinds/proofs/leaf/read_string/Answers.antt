@@ -5,18 +5,18 @@ use Rattle.kinds.proofs.leaf.read_string.Goals as goal
 
 pub returns-then-kind-eq7 : goal.returns-then-kind-eq7
 returns-then-kind-eq7 c =
-    ran_row _ _ _ (octets_type _ _ _ c.row_kind-kind.ensures c.row_flags-flags.ensures c.row_a-a.ensures
-    c.row_b-b.ensures
+    ran_row _ _ _ (octets_type _ _ _ c.row_kind-kind.ensures c.row_bounds-bounds.ensures.0 c.row_bounds-bounds.ensures.1
+    c.row_bounds-bounds.ensures.2
     c.if-kind-eq7.true) c.read_octets.ensures
 
 pub returns-then-kind-eq8 : goal.returns-then-kind-eq8
 returns-then-kind-eq8 c =
-    ran_row _ _ _ (bits_type _ _ _ c.row_kind-kind.ensures c.row_flags-flags.ensures c.row_a-a.ensures
-    c.row_b-b.ensures
+    ran_row _ _ _ (bits_type _ _ _ c.row_kind-kind.ensures c.row_bounds-bounds.ensures.0 c.row_bounds-bounds.ensures.1
+    c.row_bounds-bounds.ensures.2
     c.if-kind-eq8.true) c.read_bits.ensures
 
 pub returns : goal.returns
 returns c =
-    ran_row _ _ _ (visible_type _ _ _ c.row_kind-kind.ensures c.row_flags-flags.ensures c.row_a-a.ensures
-    c.row_b-b.ensures
+    ran_row _ _ _ (visible_type _ _ _ c.row_kind-kind.ensures c.row_bounds-bounds.ensures.0 c.row_bounds-bounds.ensures.1
+    c.row_bounds-bounds.ensures.2
     c.requires.1 c.requires.2 c.if-kind-eq7.false c.if-kind-eq8.false) c.read_visible.ensures

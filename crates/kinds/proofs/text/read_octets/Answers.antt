@@ -6,12 +6,12 @@ use native.Mathlib.Omega.{arith}
 use Rattle.kinds.proofs.Texts.{octets_text, any_octets_lem, text_stop, text_size, text_goes}
 use Rattle.kinds.proofs.text.read_octets.Goals as goal
 
-pub returns-then-not-is_sized : goal.returns-then-not-is_sized
-returns-then-not-is_sized c =
+pub returns-then-not-allows_size : goal.returns-then-not-allows_size
+returns-then-not-allows_size c =
     text_size (octets_text _ _ _) c.requires.1
     c.run_of.ensures _
-    c.in_ok-run.was c.is_sized.ensures
-    c.if-not-is_sized.true c.at.ensures
+    c.in_ok-run.was c.allows_size.ensures
+    c.if-not-allows_size.true c.at.ensures
 
 pub copy-requires : goal.copy-requires
 copy-requires c = (c.run_of.ensures.went _ c.in_ok-run.was).inside
@@ -44,7 +44,7 @@ pub returns : goal.returns
 returns c =
     text_goes (octets_text _ _ _) c.requires.1
     c.run_of.ensures _
-    c.in_ok-run.was c.is_sized.ensures
-    c.if-not-is_sized.false (any_octets_lem _) refl
+    c.in_ok-run.was c.allows_size.ensures
+    c.if-not-allows_size.false (any_octets_lem _) refl
     c.put_node.ensures
     c.copy.ensures refl

@@ -6,12 +6,12 @@ use native.Mathlib.Omega.{arith}
 use Rattle.kinds.proofs.Texts.{visible_text, text_stop, text_size, text_characters, text_goes}
 use Rattle.kinds.proofs.text.read_visible.Goals as goal
 
-pub returns-then-not-is_sized : goal.returns-then-not-is_sized
-returns-then-not-is_sized c =
+pub returns-then-not-allows_size : goal.returns-then-not-allows_size
+returns-then-not-allows_size c =
     text_size (visible_text _ _ _) c.requires.1
     c.run_of.ensures _
-    c.in_ok-run.was c.is_sized.ensures
-    c.if-not-is_sized.true c.at.ensures
+    c.in_ok-run.was c.allows_size.ensures
+    c.if-not-allows_size.true c.at.ensures
 
 pub is_visible-requires : goal.is_visible-requires
 is_visible-requires c =
@@ -22,7 +22,7 @@ pub returns-then-not-is_visible : goal.returns-then-not-is_visible
 returns-then-not-is_visible c =
     text_characters (visible_text _ _ _) c.requires.1
     c.run_of.ensures _ c.in_ok-run.was
-    c.is_sized.ensures c.if-not-is_sized.false
+    c.allows_size.ensures c.if-not-allows_size.false
     c.is_visible.ensures c.if-not-is_visible.true c.at-then-not-is_visible.ensures
 
 pub copy-requires : goal.copy-requires
@@ -58,7 +58,7 @@ pub returns : goal.returns
 returns c =
     text_goes (visible_text _ _ _) c.requires.1 c.run_of.ensures
     _ c.in_ok-run.was
-    c.is_sized.ensures c.if-not-is_sized.false
+    c.allows_size.ensures c.if-not-allows_size.false
     c.is_visible.ensures c.if-not-is_visible.false
     c.put_node.ensures
     c.copy.ensures refl

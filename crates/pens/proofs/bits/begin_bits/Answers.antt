@@ -16,18 +16,18 @@ returns-then-not-low_bits_clear c =
     c.if-contents-used.false
     c.low_bits_clear.ensures c.if-not-low_bits_clear.true
 
-pub returns-then-not-is_sized : goal.returns-then-not-is_sized
-returns-then-not-is_sized c =
+pub returns-then-not-allows_size : goal.returns-then-not-allows_size
+returns-then-not-allows_size c =
     unsized (bits_tested _ _ _ _ c.octets-whole.ensures
     c.unused.ensures) _ c.requires.0
     c.if-contents-used.false
     c.low_bits_clear.ensures c.if-not-low_bits_clear.false
-    c.is_sized.ensures c.if-not-is_sized.true
+    c.allows_size.ensures c.if-not-allows_size.true
 
 pub returns : goal.returns
 returns c =
     begins (bits_tested _ _ _ _ c.octets-whole.ensures c.unused.ensures) _
     c.requires.0 c.if-contents-used.false
     c.low_bits_clear.ensures c.if-not-low_bits_clear.false
-    c.is_sized.ensures c.if-not-is_sized.false
+    c.allows_size.ensures c.if-not-allows_size.false
     refl refl c.put_bits_head.ensures

@@ -6,16 +6,16 @@ use Rattle.pens.proofs.leaf.begin_string.Goals as goal
 pub returns-then-kind-eq8 : goal.returns-then-kind-eq8
 returns-then-kind-eq8 c =
     headed_row (bits_type _ _ _ c.requires.1
-    c.row_flags-flags.ensures
-    c.row_a-a.ensures
-    c.row_b-b.ensures c.if-kind-eq8.true)
+    c.row_bounds-bounds.ensures.0
+    c.row_bounds-bounds.ensures.1
+    c.row_bounds-bounds.ensures.2 c.if-kind-eq8.true)
     c.begin_bits.ensures
 
 pub returns : goal.returns
 returns c =
     headed_row (text_type _ _ _ c.requires.1
-    c.row_flags-flags.ensures
-    c.row_a-a.ensures
-    c.row_b-b.ensures c.requires.2
+    c.row_bounds-bounds.ensures.0
+    c.row_bounds-bounds.ensures.1
+    c.row_bounds-bounds.ensures.2 c.requires.2
     c.requires.3
     c.if-kind-eq8.false) c.begin_text.ensures

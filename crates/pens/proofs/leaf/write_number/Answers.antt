@@ -40,8 +40,8 @@ returns-then-kind-eq6 c = numbered_row (null_type _ _ _ c.requires.2 c.if-kind-e
 pub returns : goal.returns
 returns c =
     numbered_row (integer_last _ _ _ c.requires.2
-    c.row_flags.ensures
-    c.row_a.ensures c.row_b.ensures
+    c.row_bounds.ensures.0
+    c.row_bounds.ensures.1 c.row_bounds.ensures.2
     c.requires.1
     c.requires.3 c.if-kind-eq1.false
     c.if-kind-eq3.false c.if-kind-eq4.false c.if-kind-eq5.false

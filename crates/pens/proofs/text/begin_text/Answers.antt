@@ -7,20 +7,20 @@ pub returns-then-contents-used : goal.returns-then-contents-used
 returns-then-contents-used c =
     lacking (text_tested _ _ _ _ _) _ c.requires.0 c.if-contents-used.true
 
-pub returns-then-not-is_sized : goal.returns-then-not-is_sized
-returns-then-not-is_sized c =
+pub returns-then-not-allows_size : goal.returns-then-not-allows_size
+returns-then-not-allows_size c =
     unsized (text_tested _ _ _ _ _) _ c.requires.0
-    c.if-contents-used.false refl refl c.is_sized.ensures c.if-not-is_sized.true
+    c.if-contents-used.false refl refl c.allows_size.ensures c.if-not-allows_size.true
 
 pub returns-then-not-has_characters : goal.returns-then-not-has_characters
 returns-then-not-has_characters c =
     strange (text_tested _ _ _ _ _) _ c.requires.0
     c.if-contents-used.false refl refl
-    c.is_sized.ensures c.if-not-is_sized.false
+    c.allows_size.ensures c.if-not-allows_size.false
     c.has_characters.ensures c.if-not-has_characters.true
 
 pub returns : goal.returns
 returns c =
     begins (text_tested _ _ _ _ _) _ c.requires.0 c.if-contents-used.false refl refl
-    c.is_sized.ensures c.if-not-is_sized.false
+    c.allows_size.ensures c.if-not-allows_size.false
     c.has_characters.ensures c.if-not-has_characters.false c.put_text_head.ensures

@@ -15,11 +15,8 @@ returns-then-s c = setting_absent _ _ _ _ _ (c.find_in.ensures.went _ c.in_ok-s.
 pub row_kind-requires : goal.row_kind-requires
 row_kind-requires c = (c.find_in.ensures.went _ c.in_ok-s.was).spot.inside
 
-pub row_flags-requires : goal.row_flags-requires
-row_flags-requires c = (c.find_in.ensures.went _ c.in_ok-s.was).spot.inside
-
-pub row_a-requires : goal.row_a-requires
-row_a-requires c = (c.find_in.ensures.went _ c.in_ok-s.was).spot.inside
+pub row_bounds-requires : goal.row_bounds-requires
+row_bounds-requires c = (c.find_in.ensures.went _ c.in_ok-s.was).spot.inside
 
 pub setting_of-requires : goal.setting_of-requires
 setting_of-requires c =
@@ -29,4 +26,4 @@ setting_of-requires c =
 pub returns : goal.returns
 returns c =
     setting_there _ _ _ _ _ (c.find_in.ensures.went _ c.in_ok-s.was) c.if-s.false c.row_kind.ensures
-    c.row_flags.ensures c.row_a.ensures c.setting_of.ensures
+    c.row_bounds.ensures.0 c.row_bounds.ensures.1 c.setting_of.ensures
