@@ -18,8 +18,9 @@ pub fn put<T: Copy>(out: &mut [T], k: usize, x: T)
     }
 }
 
-// Stores n octets of `from`, from `start` on, at `to`, where all have room. Octet by octet: `copy_from_slice` is a call,
-// around which the writers that this is compiled into keep less in registers, and writing small values costs 7 in 100 more.
+// Stores n octets of `from`, from `start` on, at `to`, where all have room. Octet by octet: `copy_from_slice` is a
+// call, around which the writers that this is compiled into keep less in registers, and writing small values costs 7
+// in 100 more.
 fn copy_all(from: &[u8], start: usize, n: usize, out: &mut [u8], to: usize)
     requires { (start + n ≤ length from.now) × (to + n ≤ length out.old) }
     ensures { out.new ≡ sets out.old to (take n (drop start from.now)) }
@@ -29,8 +30,8 @@ fn copy_all(from: &[u8], start: usize, n: usize, out: &mut [u8], to: usize)
     }
 }
 
-// The same of 32 octets. All are read before one is stored, so that no test for overlap is needed to copy them as vectors.
-// (By `copy_from_slice`, with the array or without, writing strings costs a third more and up to twice as much.)
+// The same of 32 octets. All are read before one is stored, so that no test for overlap is needed to copy them as
+// vectors. (By `copy_from_slice` writing strings costs a third more, and through the array more than twice as much.)
 fn copy_block(from: &[u8], start: usize, out: &mut [u8], to: usize)
     requires { (start + 32 ≤ length from.now) × (to + 32 ≤ length out.old) }
     ensures { out.new ≡ sets out.old to (take 32 (drop start from.now)) }
