@@ -2,14 +2,12 @@
 -- Assumes nothing.
 use mathlib.Core.Path.{◌≡◌, refl, sym, ap, ◌∙◌}
 use mathlib.Core.List.{List, [], ◌∷◌, ◌++◌}
-use Prim.Native.Nat.{ℕ, suc, ◌+◌, ◌-◌, ◌<◌, ◌≤◌, min}
+use Prim.Native.Nat.{ℕ, suc, ◌+◌, ◌-◌, ◌<◌, ◌≤◌}
 use native.Mathlib.Nat.{add-zero}
 use native.Mathlib.Omega.{arith}
-use lib.ListN.{length, set, take, drop, length-drop}
-use lib.Seq.{sets, sets-eq, set_out, set_comm, take-add, drop-drop, length-take-le}
+use lib.ListN.{length, get_or, set, take, drop, length-drop}
+use lib.Seq.{sets, sets-eq, set_out, set_comm, take-add, take-append_seam, drop-drop, drop-cons, length-take-le}
 use lib.Seq.{length-sets}
-use Rattle.std.proofs.lemmas.List.{append_assoc}
-use borrow.Rule.Slice.PartMut.{put_mid}
 use Rattle.x696.proofs.OutcomeLaws.{cases_lt}
 
 -- one run after another
@@ -42,7 +40,7 @@ sets_comm (v ∷ vs) ws l i j h =
     ap (λ (x : List ℕ). sets x (suc i) vs) (set_sets ws l i j v (omega arith))
     ∙ sets_comm vs ws (set l i v) (suc i) j (omega arith)
 
--- ---- a run of octets copied from `f` on to `u` on: k octets more, and all that have room
+-- ---- a run of octets copied from `f` on to `u` on: k octets more, one octet more, and all that have room
 pub copied_on : (msg l m : List ℕ) (f u i k : ℕ) → f + i ≤ length msg → m ≡ sets l u (take i (drop f msg))
     → sets m (u + i) (take k (drop (f + i) msg)) ≡ sets l u (take (i + k) (drop f msg))
 copied_on msg l m f u i k h inv =
@@ -50,6 +48,12 @@ copied_on msg l m f u i k h inv =
     let e : u + i ≡ u + length (take i (drop f msg)) = rw (length-take-le i (drop f msg) j) in
     rw (take-add i k (drop f msg), drop-drop i f msg)
     (sets_after (take i (drop f msg)) (take k (drop (f + i) msg)) l u inv e)
+
+pub copied_more : (msg l m : List ℕ) (f u i : ℕ) → f + i < length msg → m ≡ sets l u (take i (drop f msg))
+    → set m (u + i) (get_or msg (f + i) 0) ≡ sets l u (take (i + 1) (drop f msg))
+copied_more msg l m f u i h inv =
+    let one : take 1 (drop (f + i) msg) ≡ get_or msg (f + i) 0 ∷ [] = rw (drop-cons msg (f + i) 0 h) refl in
+    rw one at (copied_on msg l m f u i 1 (omega arith) inv)
 
 pub copied_all : (msg l m : List ℕ) (f u n i : ℕ) → f + n ≤ length msg → i ≤ n → (i < n → length l ≤ u + i)
     → m ≡ sets l u (take i (drop f msg)) → m ≡ sets l u (take n (drop f msg))
@@ -63,18 +67,17 @@ copied_all msg l m f u n i h g full inv =
     ∙ copied_on msg l m f u i (n - i) (omega arith) inv))
     (λ _ ge. let e : n ≡ i = omega arith in rw e inv)
 
--- a part of a list stored over by as many octets
-part_stored : (vs l : List ℕ) (u k : ℕ) → u + length vs ≤ length l → k ≡ length vs → put_mid u k l vs ≡ sets l u vs
-part_stored vs l u k h e =
-    rw (sets-eq vs l u h, e, drop-drop (length vs) u l) (sym (append_assoc (take u l) vs (drop (u + length vs) l)))
+-- ---- n octets copied through a list of that length
+through : (vs l : List ℕ) → length l ≡ length vs → take (length vs) (sets l 0 vs) ≡ vs
+through vs l e = rw (sets-eq vs l 0 (omega arith)) (take-append_seam vs (drop (0 + length vs) l))
 
-pub copied : (msg l : List ℕ) {vs : List ℕ} (f u n m : ℕ) → f + n ≤ length msg → u < length l → m ≡ min n (length l - u)
-    → vs ≡ take (f + m - f) (drop f msg) → put_mid u (u + m - u) l vs ≡ sets l u (take n (drop f msg))
-copied msg l f u n m h g em e =
-    let a : f + m - f ≡ m = omega arith in
-    let b : u + m - u ≡ m = omega arith in
-    let j : m ≤ length (drop f msg) = simp length-drop (omega arith) in
-    let size : length (take m (drop f msg)) ≡ m = length-take-le m (drop f msg) j in
-    rw (e, a, b)
-    (copied_all msg l _ f u n m h (omega arith) (λ s. omega arith)
-    (part_stored (take m (drop f msg)) l u m (omega (arith, size)) (sym size)))
+pub copied_through : (msg l o : List ℕ) {m o' : List ℕ} (f u n : ℕ) → f + n ≤ length msg → length l ≡ n
+    → m ≡ sets l 0 (take n (drop f msg)) → o' ≡ sets o u (take n (drop 0 m)) → o' ≡ sets o u (take n (drop f msg))
+copied_through msg l o {m} f u n h g e k =
+    let j : n ≤ length (drop f msg) = simp length-drop (omega arith) in
+    let size : length (take n (drop f msg)) ≡ n = length-take-le n (drop f msg) j in
+    let whole : take n (drop 0 m) ≡ take n (drop f msg) =
+    ap (λ (x : List ℕ). take n x) e
+    ∙ ap (λ (i : ℕ). take i (sets l 0 (take n (drop f msg)))) (sym size)
+    ∙ through (take n (drop f msg)) l (g ∙ sym size) in
+    k ∙ ap (λ (x : List ℕ). sets o u x) whole
