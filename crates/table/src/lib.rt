@@ -9,4 +9,5 @@ pub mod numbers;
 pub mod reply;
 pub mod rules;
 pub mod search;
+pub mod sound;
 pub mod words;
