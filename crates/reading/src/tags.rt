@@ -5,19 +5,19 @@ ghost use Rattle.x696.specs.Types.{Ty, alternative};
 ghost use Rattle.x696.specs.Table.{item_width, alternatives_from};
 ghost use Rattle.reading.specs.Parts.{TagsAscend};
 
-use table::words::{tag_class, tag_number};
+use table::sound::Table;
 
 // The place of a tag among the n alternatives from `first` on; n where there is none.
-pub fn find_tag(items: &[u64], first: usize, n: usize, class: u64, number: u64) -> usize
-    requires { (first + n ≤ length items.now / item_width) × TagsAscend items.now first n }
-    ensures { (((f : ℕ → Ty) → result ≡ alternative (alternatives_from f items.now first n) (tag class number))) × (result ≤ n) }
+pub fn find_tag(table: &Table, first: usize, n: usize, class: u64, number: u64) -> usize
+    requires { (first + n ≤ length table.now.items.now / item_width) × TagsAscend table.now.items.now first n }
+    ensures { (((f : ℕ → Ty) → result ≡ alternative (alternatives_from f table.now.items.now first n) (tag class number))) × (result ≤ n) }
 {
     let mut low = 0;
     let mut high = n;
     while low < high {
         let mid = low + (high - low) / 2;
-        let c = tag_class(items, first + mid);
-        let m = tag_number(items, first + mid);
+        let c = table.tag_class(first + mid);
+        let m = table.tag_number(first + mid);
         if is_tag(c, m, class, number) {
             return mid;
         }

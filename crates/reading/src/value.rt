@@ -6,7 +6,6 @@ ghost use Rattle.std.specs.Prelude.{◌≡◌, ℕ, ◌/◌, ◌<◌, ◌≤◌,
 ghost use Rattle.x696.specs.Read.{message, read};
 ghost use Rattle.x696.specs.Operations.{node_limit};
 ghost use Rattle.x696.specs.Table.{row_width, row_kind, type_of};
-ghost use Rattle.x696.specs.SoundTable.{SoundTable};
 ghost use Rattle.kinds.specs.Run.{Ran, inside_at};
 ghost use Rattle.reading.specs.Members.{member_at, members, Member, Members, RanAll};
 
@@ -21,14 +20,11 @@ use octets::faults::{Cause, Fault};
 use octets::nodes::put_node;
 use octets::tags::read_tag;
 use octets::variable::read_quantity;
-use table::words::{
-    alternative_row, component_default, component_row, row_count, row_first, row_kind,
-};
+use table::sound::Table;
 
 // A value of a row at octet `at`, with `count` nodes and `used` contents octets before it: a member alone.
 pub fn read_value(
-    rows: &[u64],
-    items: &[u64],
+    table: &Table,
     row: usize,
     msg: &[u8],
     at: usize,
@@ -37,12 +33,11 @@ pub fn read_value(
     nodes: &mut [u64],
     contents: &mut [u8],
 ) -> Result<Cursor, Fault>
-    requires { SoundTable rows.now items.now × (row < length rows.now / row_width) × (at ≤ length msg.now) × (used ≤ at) × (length msg.now ≤ 65535) }
-    ensures { Ran msg.now (read node_limit (type_of rows.now items.now row) (length msg.now) (message (drop at msg.now) count)) at count used nodes.old contents.old nodes.new contents.new result }
+    requires { (row < length table.now.rows.now / row_width) × (at ≤ length msg.now) × (used ≤ at) × (length msg.now ≤ 65535) }
+    ensures { Ran msg.now (read node_limit (type_of table.now.rows.now table.now.items.now row) (length msg.now) (message (drop at msg.now) count)) at count used nodes.old contents.old nodes.new contents.new result }
 {
     read_members(
-        rows,
-        items,
+        table,
         row + 1,
         row,
         false,
@@ -64,8 +59,7 @@ pub fn read_value(
 // are read.
 #[cycle(readers)]
 pub fn read_members(
-    rows: &[u64],
-    items: &[u64],
+    table: &Table,
     above: usize,
     inner: usize,
     listed: bool,
@@ -80,8 +74,8 @@ pub fn read_members(
     nodes: &mut [u64],
     contents: &mut [u8],
 ) -> Result<Cursor, Fault>
-    requires { SoundTable rows.now items.now × (above ≤ length rows.now / row_width) × Members rows.now items.now above inner listed first bit n × (pre ≤ length msg.now) × (at ≤ length msg.now) × (used ≤ at) × (length msg.now ≤ 65535) }
-    ensures { RanAll msg.now (members rows.now items.now msg.now inner listed pre n first bit (message (drop at msg.now) count)) at count used nodes.old contents.old nodes.new contents.new result }
+    requires { (above ≤ length table.now.rows.now / row_width) × Members table.now.rows.now table.now.items.now above inner listed first bit n × (pre ≤ length msg.now) × (at ≤ length msg.now) × (used ≤ at) × (length msg.now ≤ 65535) }
+    ensures { RanAll msg.now (members table.now.rows.now table.now.items.now msg.now inner listed pre n first bit (message (drop at msg.now) count)) at count used nodes.old contents.old nodes.new contents.new result }
 {
     let mut reached = Cursor {
         at,
@@ -91,11 +85,10 @@ pub fn read_members(
     };
     let mut b = bit;
     for i in 0..n {
-        let mark = member_mark(items, listed, first + i);
-        let row = member_row(items, inner, listed, first + i);
+        let mark = member_mark(table, listed, first + i);
+        let row = member_row(table, inner, listed, first + i);
         reached = read_member(
-            rows,
-            items,
+            table,
             above,
             row,
             mark,
@@ -117,8 +110,7 @@ pub fn read_members(
 // One member: a component with presence bit b of the preamble at `pre`, its value or the node that stands for it.
 #[cycle(readers)]
 fn read_member(
-    rows: &[u64],
-    items: &[u64],
+    table: &Table,
     above: usize,
     row: usize,
     mark: u64,
@@ -132,14 +124,14 @@ fn read_member(
     nodes: &mut [u64],
     contents: &mut [u8],
 ) -> Result<Cursor, Fault>
-    requires { SoundTable rows.now items.now × (above ≤ length rows.now / row_width) × Member rows.now items.now above row mark i b × (pre ≤ length msg.now) × (at ≤ length msg.now) × (used ≤ at) × (length msg.now ≤ 65535) }
-    ensures { Ran msg.now (member_at rows.now items.now msg.now mark i row pre b (message (drop at msg.now) count)) at count used nodes.old contents.old nodes.new contents.new result }
+    requires { (above ≤ length table.now.rows.now / row_width) × Member table.now.rows.now table.now.items.now above row mark i b × (pre ≤ length msg.now) × (at ≤ length msg.now) × (used ≤ at) × (length msg.now ≤ 65535) }
+    ensures { Ran msg.now (member_at table.now.rows.now table.now.items.now msg.now mark i row pre b (message (drop at msg.now) count)) at count used nodes.old contents.old nodes.new contents.new result }
 {
     if is_missing(msg, pre, b, mark) {
-        let kind = missing_kind(rows, row, mark);
+        let kind = missing_kind(table, row, mark);
         return read_missing(
             kind,
-            component_default(items, i),
+            table.component_default(i),
             msg,
             at,
             count,
@@ -147,9 +139,9 @@ fn read_member(
             nodes,
         );
     }
-    let d = read_row(rows, items, row, msg, at, count, used, nodes, contents)?;
+    let d = read_row(table, row, msg, at, count, used, nodes, contents)?;
     // a component equal to its DEFAULT is absent (31.9)
-    if is_default(items, i, mark, d.number) {
+    if is_default(table.items, i, mark, d.number) {
         return Err(Cause::NotCanonical.at(at));
     }
     Ok(d)
@@ -158,8 +150,7 @@ fn read_member(
 // A value by its row's kind.
 #[cycle(readers)]
 fn read_row(
-    rows: &[u64],
-    items: &[u64],
+    table: &Table,
     row: usize,
     msg: &[u8],
     at: usize,
@@ -168,16 +159,16 @@ fn read_row(
     nodes: &mut [u64],
     contents: &mut [u8],
 ) -> Result<Cursor, Fault>
-    requires { SoundTable rows.now items.now × (row < length rows.now / row_width) × (at ≤ length msg.now) × (used ≤ at) × (length msg.now ≤ 65535) }
-    ensures { Ran msg.now (read node_limit (type_of rows.now items.now row) (length msg.now) (message (drop at msg.now) count)) at count used nodes.old contents.old nodes.new contents.new result }
+    requires { (row < length table.now.rows.now / row_width) × (at ≤ length msg.now) × (used ≤ at) × (length msg.now ≤ 65535) }
+    ensures { Ran msg.now (read node_limit (type_of table.now.rows.now table.now.items.now row) (length msg.now) (message (drop at msg.now) count)) at count used nodes.old contents.old nodes.new contents.new result }
 {
     // a node is counted before any octet of its value is looked at
     if 4096 <= count {
         return Err(Cause::Nodes.at(at));
     }
-    let kind = row_kind(rows, row);
+    let kind = table.row_kind(row);
     if kind < 7 {
-        let x = read_scalar(rows, items, row, msg, at)?;
+        let x = read_scalar(table.rows, table.items, row, msg, at)?;
         put_node(nodes, count, kind, x.value);
         return Ok(Cursor {
             at: x.next,
@@ -187,22 +178,31 @@ fn read_row(
         });
     }
     if kind < 10 {
-        return read_string(rows, items, row, msg, at, count, used, nodes, contents);
+        return read_string(
+            table.rows,
+            table.items,
+            row,
+            msg,
+            at,
+            count,
+            used,
+            nodes,
+            contents,
+        );
     }
     if kind == 10 {
-        return read_sequence(rows, items, row, msg, at, count, used, nodes, contents);
+        return read_sequence(table, row, msg, at, count, used, nodes, contents);
     }
     if kind == 11 {
-        return read_sequence_of(rows, items, row, msg, at, count, used, nodes, contents);
+        return read_sequence_of(table, row, msg, at, count, used, nodes, contents);
     }
-    read_choice(rows, items, row, msg, at, count, used, nodes, contents)
+    read_choice(table, row, msg, at, count, used, nodes, contents)
 }
 
 // Kind 10: preamble, components (16.1).
 #[cycle(readers)]
 fn read_sequence(
-    rows: &[u64],
-    items: &[u64],
+    table: &Table,
     row: usize,
     msg: &[u8],
     at: usize,
@@ -211,13 +211,13 @@ fn read_sequence(
     nodes: &mut [u64],
     contents: &mut [u8],
 ) -> Result<Cursor, Fault>
-    requires { SoundTable rows.now items.now × (row < length rows.now / row_width) × (at ≤ length msg.now) × (used ≤ at) × (count < 4096) × (row_kind rows.now row ≡ 10) × (length msg.now ≤ 65535) }
-    ensures { Ran msg.now (inside_at (type_of rows.now items.now row) msg.now at count) at count used nodes.old contents.old nodes.new contents.new result }
+    requires { (row < length table.now.rows.now / row_width) × (at ≤ length msg.now) × (used ≤ at) × (count < 4096) × (row_kind table.now.rows.now row ≡ 10) × (length msg.now ≤ 65535) }
+    ensures { Ran msg.now (inside_at (type_of table.now.rows.now table.now.items.now row) msg.now at count) at count used nodes.old contents.old nodes.new contents.new result }
 {
-    let first = row_first(rows, row) as usize;
-    let n = row_count(rows, row) as usize;
+    let first = table.row_first(row);
+    let n = table.row_count(row);
     put_node(nodes, count, 10, n as u64);
-    let bits = count_marked(items, first, n);
+    let bits = count_marked(table, first, n);
     // `div_ceil` would be five instructions in place of two, here and below
     if msg.len() - at < (bits + 7) / 8 {
         return Err(Cause::Short.at(at));
@@ -227,8 +227,7 @@ fn read_sequence(
         return Err(Cause::NotCanonical.at(at));
     }
     let d = read_members(
-        rows,
-        items,
+        table,
         row,
         0,
         true,
@@ -252,8 +251,7 @@ fn read_sequence(
 // Kind 11: quantity, occurrences (17.1).
 #[cycle(readers)]
 fn read_sequence_of(
-    rows: &[u64],
-    items: &[u64],
+    table: &Table,
     row: usize,
     msg: &[u8],
     at: usize,
@@ -262,16 +260,15 @@ fn read_sequence_of(
     nodes: &mut [u64],
     contents: &mut [u8],
 ) -> Result<Cursor, Fault>
-    requires { SoundTable rows.now items.now × (row < length rows.now / row_width) × (at ≤ length msg.now) × (used ≤ at) × (count < 4096) × (row_kind rows.now row ≡ 11) × (length msg.now ≤ 65535) }
-    ensures { Ran msg.now (inside_at (type_of rows.now items.now row) msg.now at count) at count used nodes.old contents.old nodes.new contents.new result }
+    requires { (row < length table.now.rows.now / row_width) × (at ≤ length msg.now) × (used ≤ at) × (count < 4096) × (row_kind table.now.rows.now row ≡ 11) × (length msg.now ≤ 65535) }
+    ensures { Ran msg.now (inside_at (type_of table.now.rows.now table.now.items.now row) msg.now at count) at count used nodes.old contents.old nodes.new contents.new result }
 {
-    let inner = component_row(items, row_first(rows, row) as usize) as usize;
+    let inner = table.component_row(table.row_first(row));
     let q = read_quantity(msg, at, at)?;
     let n = q.many.0;
     put_node(nodes, count, 11, n);
     let d = read_members(
-        rows,
-        items,
+        table,
         row,
         inner,
         false,
@@ -292,8 +289,7 @@ fn read_sequence_of(
 // Kind 12: tag, the chosen alternative (20.1).
 #[cycle(readers)]
 fn read_choice(
-    rows: &[u64],
-    items: &[u64],
+    table: &Table,
     row: usize,
     msg: &[u8],
     at: usize,
@@ -302,23 +298,22 @@ fn read_choice(
     nodes: &mut [u64],
     contents: &mut [u8],
 ) -> Result<Cursor, Fault>
-    requires { SoundTable rows.now items.now × (row < length rows.now / row_width) × (at ≤ length msg.now) × (used ≤ at) × (count < 4096) × (row_kind rows.now row ≡ 12) × (length msg.now ≤ 65535) }
-    ensures { Ran msg.now (inside_at (type_of rows.now items.now row) msg.now at count) at count used nodes.old contents.old nodes.new contents.new result }
+    requires { (row < length table.now.rows.now / row_width) × (at ≤ length msg.now) × (used ≤ at) × (count < 4096) × (row_kind table.now.rows.now row ≡ 12) × (length msg.now ≤ 65535) }
+    ensures { Ran msg.now (inside_at (type_of table.now.rows.now table.now.items.now row) msg.now at count) at count used nodes.old contents.old nodes.new contents.new result }
 {
-    let first = row_first(rows, row) as usize;
-    let n = row_count(rows, row) as usize;
+    let first = table.row_first(row);
+    let n = table.row_count(row);
     let g = read_tag(msg, at, at)?;
-    let k = find_tag(items, first, n, g.class, g.number);
+    let k = find_tag(table, first, n, g.class, g.number);
     // a tag of the type
     if n <= k {
         return Err(Cause::NotAllowed.at(at));
     }
     put_node(nodes, count, 12, k as u64);
     let d = read_members(
-        rows,
-        items,
+        table,
         row,
-        alternative_row(items, first + k) as usize,
+        table.alternative_row(first + k),
         false,
         0,
         1,

@@ -5,7 +5,7 @@ use Rattle.reading.proofs.TagSearch.{Around}
 use Rattle.reading.proofs.tags.find_tag.Given as goal
 
 abbrev pub invariant-loop-low : goal.invariant-loop-low
-invariant-loop-low l = Around l.items l.class l.number l.first l.n l.low l.high
+invariant-loop-low l = Around l.table.items.now l.class l.number l.first l.n l.low l.high
 
 abbrev pub decreases-loop-low : goal.decreases-loop-low
 decreases-loop-low l = l.high - l.low

@@ -25,112 +25,110 @@ use Rattle.reading.proofs.value.+readers.Goals as goal
 
 pub read_choice-find_tag-k-requires : goal.read_choice-find_tag-k-requires
 read_choice-find_tag-k-requires t c =
-    let sound = c.requires.0.row c.args.row c.requires.1 in
-    let row = choice_row _ _ _ sound c.requires.5 in (
+    let sound = c.args.table.now.sound.row c.args.row c.requires.0 in
+    let row = choice_row _ _ _ sound c.requires.4 in (
       omega (arith, row.range, c.row_first-first.ensures, c.row_count-n.ensures),
       λ i j h g. rw c.row_first-first.ensures (row.ascends i j h (rw (← c.row_count-n.ensures) g)),
     )
 
 pub read_choice-returns-then-n-k : goal.read_choice-returns-then-n-k
 read_choice-returns-then-n-k t c =
-    let sound = c.requires.0.row c.args.row c.requires.1 in
-    Ran.ran_refused (Alternatives.tag_unknown _ _ _ _ _ _ c.requires.2 sound c.requires.5
+    let sound = c.args.table.now.sound.row c.args.row c.requires.0 in
+    Ran.ran_refused (Alternatives.tag_unknown _ _ _ _ _ _ c.requires.1 sound c.requires.4
     c.read_tag.ensures _ _ _ _ c.in_ok-g.was c.row_first-first.ensures c.row_count-n.ensures
     c.find_tag-k.ensures.0 c.if-n-k.true) c.at.ensures
 
 pub read_choice-overflow_add-first : goal.read_choice-overflow_add-first
 read_choice-overflow_add-first t c =
-    let sound = c.requires.0.row c.args.row c.requires.1 in
-    let row = choice_row _ _ _ sound c.requires.5 in
-    omega (arith, row.range, c.requires.0.few_items, c.row_first-first.ensures, c.row_count-n.ensures)
+    let sound = c.args.table.now.sound.row c.args.row c.requires.0 in
+    let row = choice_row _ _ _ sound c.requires.4 in
+    omega (arith, row.range, c.args.table.now.sound.few_items, c.row_first-first.ensures, c.row_count-n.ensures)
 
 pub read_choice-alternative_row-requires : goal.read_choice-alternative_row-requires
 read_choice-alternative_row-requires t c =
-    let sound = c.requires.0.row c.args.row c.requires.1 in
-    let row = choice_row _ _ _ sound c.requires.5 in
+    let sound = c.args.table.now.sound.row c.args.row c.requires.0 in
+    let row = choice_row _ _ _ sound c.requires.4 in
     omega (arith, row.range, c.row_first-first.ensures, c.row_count-n.ensures, c.if-n-k.false)
 
 pub read_choice-read_members-requires : goal.read_choice-read_members-requires
 read_choice-read_members-requires t c =
-    let sound = c.requires.0.row c.args.row c.requires.1 in
-    let row = choice_row _ _ _ sound c.requires.5 in
+    let sound = c.args.table.now.sound.row c.args.row c.requires.0 in
+    let row = choice_row _ _ _ sound c.requires.4 in
     let y = c.read_tag.ensures.went _ c.in_ok-g.was in
     let lt : c.alternative_row.result < c.args.row = rw (c.alternative_row.ensures, c.row_first-first.ensures)
     (row.alternative c.find_tag-k.result (rw (← c.row_count-n.ensures) c.if-n-k.false)).lower in (
       omega arith,
       (
-        c.requires.0,
-        omega (arith, c.requires.1),
+        omega (arith, c.requires.0),
         Laws.members_alone lt,
-        c.requires.2,
+        c.requires.1,
         y.inside,
-        omega (arith, y.ahead, c.requires.3),
-        c.requires.6,
+        omega (arith, y.ahead, c.requires.2),
+        c.requires.5,
       ),
     )
 
 pub read_choice-returns-in_err-g : goal.read_choice-returns-in_err-g
 read_choice-returns-in_err-g t c =
     let p = err_from_is_err_and c.from_residual.result c.from_residual.ensures.1 in
-    rw (p.1, p.2) (let sound = c.requires.0.row c.args.row c.requires.1 in
-    Ran.ran_fault _ (Alternatives.tag_stops _ _ _ _ _ _ c.requires.2 sound c.requires.5
+    rw (p.1, p.2) (let sound = c.args.table.now.sound.row c.args.row c.requires.0 in
+    Ran.ran_fault _ (Alternatives.tag_stops _ _ _ _ _ _ c.requires.1 sound c.requires.4
     c.read_tag.ensures _ c.in_err-g.was))
 
 pub read_choice-returns-in_err-d : goal.read_choice-returns-in_err-d
 read_choice-returns-in_err-d t c =
     let p = err_from_is_err_and c.from_residual-in_err-d.result c.from_residual-in_err-d.ensures.1 in
-    rw (p.1, p.2) (let sound = c.requires.0.row c.args.row c.requires.1 in
+    rw (p.1, p.2) (let sound = c.args.table.now.sound.row c.args.row c.requires.0 in
     let one = Chains.alone_ran _ (Laws.alone_members _ _ _ _ _ _ _) c.read_members.ensures in
-    Ran.ran_fault _ (Alternatives.chosen_stops _ _ _ _ _ _ c.requires.2 sound c.requires.5
+    Ran.ran_fault _ (Alternatives.chosen_stops _ _ _ _ _ _ c.requires.1 sound c.requires.4
     c.read_tag.ensures _ _ _ _ c.in_ok-g.was c.row_first-first.ensures c.row_count-n.ensures
     c.find_tag-k.ensures.0
     c.if-n-k.false c.alternative_row.ensures (one.stopped _ c.in_err-d.was)))
 
 pub read_choice-returns : goal.read_choice-returns
 read_choice-returns t c =
-    let sound = c.requires.0.row c.args.row c.requires.1 in
+    let sound = c.args.table.now.sound.row c.args.row c.requires.0 in
     let one = Chains.alone_ran _ (Laws.alone_members _ _ _ _ _ _ _) c.read_members.ensures in
-    Alternatives.chosen_goes _ _ _ _ _ _ c.requires.2 sound c.requires.5
+    Alternatives.chosen_goes _ _ _ _ _ _ c.requires.1 sound c.requires.4
     c.read_tag.ensures _ _ _ _ c.in_ok-g.was c.row_first-first.ensures c.row_count-n.ensures
     c.find_tag-k.ensures.0
     c.if-n-k.false c.alternative_row.ensures _ c.put_node.ensures (one.went _ c.in_ok-d.was)
     refl
 
 pub read_member-is_missing-requires : goal.read_member-is_missing-requires
-read_member-is_missing-requires t c = λ h. (c.requires.3, (c.requires.2.marked h).4)
+read_member-is_missing-requires t c = λ h. (c.requires.2, (c.requires.1.marked h).4)
 
 pub read_member-missing_kind-kind-requires : goal.read_member-missing_kind-kind-requires
-read_member-missing_kind-kind-requires t c = omega (arith, c.requires.2.lower, c.requires.1)
+read_member-missing_kind-kind-requires t c = omega (arith, c.requires.1.lower, c.requires.0)
 
 pub read_member-component_default-requires : goal.read_member-component_default-requires
-read_member-component_default-requires t c = (c.requires.2.marked (OneMember.missing_marked _ _ c.is_missing.ensures c.if-is_missing.true)).0
+read_member-component_default-requires t c = (c.requires.1.marked (OneMember.missing_marked _ _ c.is_missing.ensures c.if-is_missing.true)).0
 
 pub read_member-returns-then-is_missing : goal.read_member-returns-then-is_missing
 read_member-returns-then-is_missing t c =
-    Ran.ran_by (OneMember.member_missing _ _ _ _ _ _ _ _ _ _ _ c.requires.4 c.requires.2
+    Ran.ran_by (OneMember.member_missing _ _ _ _ _ _ _ _ _ _ _ c.requires.3 c.requires.1
     c.is_missing.ensures c.if-is_missing.true _ _
     c.missing_kind-kind.ensures c.component_default.ensures) (c.read_missing.ensures _)
 
 pub read_member-read_row-requires : goal.read_member-read_row-requires
 read_member-read_row-requires t c =
-    let lower = c.requires.2.lower in (
+    let lower = c.requires.1.lower in (
       omega arith,
       (
-        c.requires.0,
-        omega (arith, c.requires.1),
+        omega (arith, c.requires.0),
+        c.requires.3,
         c.requires.4,
         c.requires.5,
-        c.requires.6,
       ),
     )
 
 pub read_member-is_default-requires : goal.read_member-is_default-requires
-read_member-is_default-requires t c = λ e. (c.requires.2.marked (λ z. omega arith)).0
+read_member-is_default-requires t c = λ e. (c.requires.1.marked (λ z. omega arith)).0
 
 pub read_member-returns-then-is_default : goal.read_member-returns-then-is_default
 read_member-returns-then-is_default t c =
     let below = below_known 8 c.args.msg.now (λ i. (c.type_inv.msg i).fits) in
-    OneMember.member_default_lem _ _ _ _ _ _ _ _ _ _ _ c.requires.4 c.requires.2 c.is_missing.ensures
+    OneMember.member_default_lem _ _ _ _ _ _ _ _ _ _ _ c.requires.3 c.requires.1 c.is_missing.ensures
     c.if-is_missing.false
     (c.read_row.ensures.went _ c.in_ok-d.was) below c.is_default.ensures c.if-is_default.true
     c.at.ensures
@@ -138,14 +136,14 @@ read_member-returns-then-is_default t c =
 pub read_member-returns-in_err-d : goal.read_member-returns-in_err-d
 read_member-returns-in_err-d t c =
     let p = err_from_is_err_and c.from_residual.result c.from_residual.ensures.1 in
-    rw (p.1, p.2) (Ran.ran_fault _ (OneMember.member_stops _ _ _ _ _ _ _ _ _ _ _ c.requires.4 c.requires.2
+    rw (p.1, p.2) (Ran.ran_fault _ (OneMember.member_stops _ _ _ _ _ _ _ _ _ _ _ c.requires.3 c.requires.1
     c.is_missing.ensures c.if-is_missing.false
     (c.read_row.ensures.stopped _ c.in_err-d.was)))
 
 pub read_member-returns : goal.read_member-returns
 read_member-returns t c =
     let below = below_known 8 c.args.msg.now (λ i. (c.type_inv.msg i).fits) in
-    OneMember.member_goes _ _ _ _ _ _ _ _ _ _ _ c.requires.4 c.requires.2 c.is_missing.ensures
+    OneMember.member_goes _ _ _ _ _ _ _ _ _ _ _ c.requires.3 c.requires.1 c.is_missing.ensures
     c.if-is_missing.false
     (c.read_row.ensures.went _ c.in_ok-d.was) below c.is_default.ensures c.if-is_default.false
     refl
@@ -154,52 +152,51 @@ pub read_members-loop-i-init : goal.read_members-loop-i-init
 read_members-loop-i-init t c = (
   refl,
   refl,
-  (c.requires.4, c.requires.5, omega arith, Chains.chain_start (Laws.members_start _ _ _ _ _ _ _ _ _ _)),
+  (c.requires.3, c.requires.4, omega arith, Chains.chain_start (Laws.members_start _ _ _ _ _ _ _ _ _ _)),
 )
 
 pub read_members-overflow_add-first : goal.read_members-overflow_add-first
 read_members-overflow_add-first t c =
     omega (
       arith,
-      Laws.member_fits c.requires.2 c.loop-i.i c.loop-i-test.true
-          c.requires.0.few_items 18446744073709551615 (omega arith) (omega arith),
+      Laws.member_fits c.requires.1 c.loop-i.i c.loop-i-test.true
+          c.args.table.now.sound.few_items 18446744073709551615 (omega arith) (omega arith),
     )
 
 pub read_members-member_mark-mark-requires : goal.read_members-member_mark-mark-requires
-read_members-member_mark-mark-requires t c = λ e. Laws.member_inside c.requires.2 c.loop-i.i c.loop-i-test.true e
+read_members-member_mark-mark-requires t c = λ e. Laws.member_inside c.requires.1 c.loop-i.i c.loop-i-test.true e
 
 pub read_members-overflow_add-first-in-loop-i : goal.read_members-overflow_add-first-in-loop-i
 read_members-overflow_add-first-in-loop-i t c =
     omega (
       arith,
-      Laws.member_fits c.requires.2 c.loop-i.i c.loop-i-test.true
-          c.requires.0.few_items 18446744073709551615 (omega arith) (omega arith),
+      Laws.member_fits c.requires.1 c.loop-i.i c.loop-i-test.true
+          c.args.table.now.sound.few_items 18446744073709551615 (omega arith) (omega arith),
     )
 
 pub read_members-member_row-row-requires : goal.read_members-member_row-row-requires
-read_members-member_row-row-requires t c = λ e. Laws.member_inside c.requires.2 c.loop-i.i c.loop-i-test.true e
+read_members-member_row-row-requires t c = λ e. Laws.member_inside c.requires.1 c.loop-i.i c.loop-i-test.true e
 
 pub read_members-overflow_add-first-in-loop-i-2 : goal.read_members-overflow_add-first-in-loop-i-2
 read_members-overflow_add-first-in-loop-i-2 t c =
     omega (
       arith,
-      Laws.member_fits c.requires.2 c.loop-i.i c.loop-i-test.true
-          c.requires.0.few_items 18446744073709551615 (omega arith) (omega arith),
+      Laws.member_fits c.requires.1 c.loop-i.i c.loop-i-test.true
+          c.args.table.now.sound.few_items 18446744073709551615 (omega arith) (omega arith),
     )
 
 pub read_members-read_member-requires : goal.read_members-read_member-requires
 read_members-read_member-requires t c =
-    let known = Laws.member_known c.requires.2 c.loop-i.i c.loop-i-test.true _
+    let known = Laws.member_known c.requires.1 c.loop-i.i c.loop-i-test.true _
     c.loop-i.invariant.2.2 _ _ c.member_mark-mark.ensures c.member_row-row.ensures in (
       omega arith,
       (
         c.requires.0,
-        c.requires.1,
         known,
-        c.requires.3,
+        c.requires.2,
         c.loop-i.invariant.2.0,
         c.loop-i.invariant.2.1,
-        c.requires.6,
+        c.requires.5,
       ),
     )
 
@@ -216,7 +213,7 @@ read_members-overflow_add-b t c =
       arith,
       c.loop-i.invariant.2.2,
       c.bit_of-b.ensures.1,
-      Laws.bit_fits c.requires.2 c.loop-i.i c.loop-i-test.true 18446744073709551615 (omega arith)
+      Laws.bit_fits c.requires.1 c.loop-i.i c.loop-i-test.true 18446744073709551615 (omega arith)
           (omega arith),
     )
 
@@ -240,14 +237,14 @@ read_members-returns t c =
 
 pub read_row-returns-then-count-ge4096 : goal.read_row-returns-then-count-ge4096
 read_row-returns-then-count-ge4096 t c =
-    Ran.ran_refused (Elements.value_full (type_of c.args.rows.now c.args.items.now c.args.row)
-    c.args.msg.now c.args.at c.args.count c.requires.2 c.if-count-ge4096.true)
+    Ran.ran_refused (Elements.value_full (type_of c.args.table.now.rows.now c.args.table.now.items.now c.args.row)
+    c.args.msg.now c.args.at c.args.count c.requires.1 c.if-count-ge4096.true)
     c.at.ensures
 
 pub read_row-read_scalar-requires : goal.read_row-read_scalar-requires
 read_row-read_scalar-requires t c =
-    let sound = c.requires.0.row c.args.row c.requires.1 in
-    (c.requires.1, sound, omega (arith, c.row_kind-kind.ensures), c.requires.2)
+    let sound = c.args.table.now.sound.row c.args.row c.requires.0 in
+    (c.requires.0, sound, omega (arith, c.row_kind-kind.ensures), c.requires.1)
 
 pub read_row-returns-in_err-x : goal.read_row-returns-in_err-x
 read_row-returns-in_err-x t c =
@@ -264,13 +261,13 @@ read_row-returns-then-kind-lt7 t c =
 
 pub read_row-read_string-requires : goal.read_row-read_string-requires
 read_row-read_string-requires t c = (
-  c.requires.1,
+  c.requires.0,
   omega (arith, c.row_kind-kind.ensures, c.if-kind-lt7.false),
   omega (arith, c.row_kind-kind.ensures, c.if-kind-lt10.true),
   c.if-count-ge4096.false,
+  c.requires.1,
   c.requires.2,
   c.requires.3,
-  c.requires.4,
 )
 
 pub read_row-returns-then-kind-lt10 : goal.read_row-returns-then-kind-lt10
@@ -283,10 +280,9 @@ read_row-read_sequence-requires t c = (
     c.requires.0,
     c.requires.1,
     c.requires.2,
-    c.requires.3,
     c.if-count-ge4096.false,
     sym c.row_kind-kind.ensures ∙ c.if-kind-eq10.true,
-    c.requires.4,
+    c.requires.3,
   ),
 )
 
@@ -300,10 +296,9 @@ read_row-read_sequence_of-requires t c = (
     c.requires.0,
     c.requires.1,
     c.requires.2,
-    c.requires.3,
     c.if-count-ge4096.false,
     sym c.row_kind-kind.ensures ∙ c.if-kind-eq11.true,
-    c.requires.4,
+    c.requires.3,
   ),
 )
 
@@ -312,7 +307,7 @@ read_row-returns-then-kind-eq11 t c = Ran.ran_by (Elements.value_inside _ _ _ _ 
 
 pub read_row-read_choice-requires : goal.read_row-read_choice-requires
 read_row-read_choice-requires t c =
-    let sound = c.requires.0.row c.args.row c.requires.1 in
+    let sound = c.args.table.now.sound.row c.args.row c.requires.0 in
     let known = kind_known _ _ _ sound in
     let twelve : c.row_kind-kind.result ≡ 12 = omega (arith, known.1, c.row_kind-kind.ensures) in (
       omega arith,
@@ -320,10 +315,9 @@ read_row-read_choice-requires t c =
         c.requires.0,
         c.requires.1,
         c.requires.2,
-        c.requires.3,
         c.if-count-ge4096.false,
         sym c.row_kind-kind.ensures ∙ twelve,
-        c.requires.4,
+        c.requires.3,
       ),
     )
 
@@ -332,18 +326,18 @@ read_row-returns t c = Ran.ran_by (Elements.value_inside _ _ _ _ c.if-count-ge40
 
 pub read_sequence-count_marked-bits-requires : goal.read_sequence-count_marked-bits-requires
 read_sequence-count_marked-bits-requires t c =
-    let sound = c.requires.0.row c.args.row c.requires.1 in
-    let row = sequence_row _ _ _ sound c.requires.5 in
+    let sound = c.args.table.now.sound.row c.args.row c.requires.0 in
+    let row = sequence_row _ _ _ sound c.requires.4 in
     omega (arith, row.range, c.row_first-first.ensures, c.row_count-n.ensures)
 
 pub read_sequence-overflow_add-bits : goal.read_sequence-overflow_add-bits
 read_sequence-overflow_add-bits t c =
-    let sound = c.requires.0.row c.args.row c.requires.1 in
-    let row = sequence_row _ _ _ sound c.requires.5 in
+    let sound = c.args.table.now.sound.row c.args.row c.requires.0 in
+    let row = sequence_row _ _ _ sound c.requires.4 in
     omega (
       arith,
       row.range,
-      c.requires.0.few_items,
+      c.args.table.now.sound.few_items,
       c.row_first-first.ensures,
       c.row_count-n.ensures,
       c.count_marked-bits.ensures.1,
@@ -351,42 +345,42 @@ read_sequence-overflow_add-bits t c =
 
 pub read_sequence-returns-then-msg-at : goal.read_sequence-returns-then-msg-at
 read_sequence-returns-then-msg-at t c =
-    let sound = c.requires.0.row c.args.row c.requires.1 in
-    Ran.ran_refused (Sequences.preamble_stops _ _ _ _ _ _ c.requires.2 sound c.requires.5 _ _ _
+    let sound = c.args.table.now.sound.row c.args.row c.requires.0 in
+    Ran.ran_refused (Sequences.preamble_stops _ _ _ _ _ _ c.requires.1 sound c.requires.4 _ _ _
     c.row_first-first.ensures c.row_count-n.ensures c.count_marked-bits.ensures.0
-    (Sequences.preamble_short _ _ _ c.requires.2 c.if-msg-at.true)) c.at.ensures
+    (Sequences.preamble_short _ _ _ c.requires.1 c.if-msg-at.true)) c.at.ensures
 
 pub read_sequence-is_padded-requires : goal.read_sequence-is_padded-requires
 read_sequence-is_padded-requires t c =
-    let sound = c.requires.0.row c.args.row c.requires.1 in
-    let row = sequence_row _ _ _ sound c.requires.5 in (
+    let sound = c.args.table.now.sound.row c.args.row c.requires.0 in
+    let row = sequence_row _ _ _ sound c.requires.4 in (
       omega (
         arith,
         row.range,
-        c.requires.0.few_items,
+        c.args.table.now.sound.few_items,
         c.row_first-first.ensures,
         c.row_count-n.ensures,
         c.count_marked-bits.ensures.1,
       ),
-      omega (arith, c.requires.2, c.if-msg-at.false),
+      omega (arith, c.requires.1, c.if-msg-at.false),
     )
 
 pub read_sequence-returns-then-not-is_padded : goal.read_sequence-returns-then-not-is_padded
 read_sequence-returns-then-not-is_padded t c =
-    let sound = c.requires.0.row c.args.row c.requires.1 in
-    Ran.ran_refused (Sequences.preamble_stops _ _ _ _ _ _ c.requires.2 sound c.requires.5 _ _ _
+    let sound = c.args.table.now.sound.row c.args.row c.requires.0 in
+    Ran.ran_refused (Sequences.preamble_stops _ _ _ _ _ _ c.requires.1 sound c.requires.4 _ _ _
     c.row_first-first.ensures c.row_count-n.ensures c.count_marked-bits.ensures.0
-    (Sequences.preamble_padded _ _ _ c.requires.2 c.if-msg-at.false _ c.is_padded.ensures
+    (Sequences.preamble_padded _ _ _ c.requires.1 c.if-msg-at.false _ c.is_padded.ensures
     c.if-not-is_padded.true)) c.at-then-not-is_padded.ensures
 
 pub read_sequence-overflow_add-bits-2 : goal.read_sequence-overflow_add-bits-2
 read_sequence-overflow_add-bits-2 t c =
-    let sound = c.requires.0.row c.args.row c.requires.1 in
-    let row = sequence_row _ _ _ sound c.requires.5 in
+    let sound = c.args.table.now.sound.row c.args.row c.requires.0 in
+    let row = sequence_row _ _ _ sound c.requires.4 in
     omega (
       arith,
       row.range,
-      c.requires.0.few_items,
+      c.args.table.now.sound.few_items,
       c.row_first-first.ensures,
       c.row_count-n.ensures,
       c.count_marked-bits.ensures.1,
@@ -394,89 +388,87 @@ read_sequence-overflow_add-bits-2 t c =
 
 pub read_sequence-read_members-requires : goal.read_sequence-read_members-requires
 read_sequence-read_members-requires t c =
-    let sound = c.requires.0.row c.args.row c.requires.1 in
-    let row = sequence_row _ _ _ sound c.requires.5 in (
+    let sound = c.args.table.now.sound.row c.args.row c.requires.0 in
+    let row = sequence_row _ _ _ sound c.requires.4 in (
       omega arith,
       (
-        c.requires.0,
-        omega (arith, c.requires.1),
+        omega (arith, c.requires.0),
         Laws.members_among (omega (arith, row.range, c.row_first-first.ensures, c.row_count-n.ensures))
-            (omega (arith, row.range, c.requires.0.few_items, c.row_count-n.ensures))
+            (omega (arith, row.range, c.args.table.now.sound.few_items, c.row_count-n.ensures))
             (λ i h. rw c.row_first-first.ensures (row.component i (rw (← c.row_count-n.ensures) h))),
-        c.requires.2,
-        omega (arith, c.requires.2, c.if-msg-at.false),
-        omega (arith, c.requires.3),
-        c.requires.6,
+        c.requires.1,
+        omega (arith, c.requires.1, c.if-msg-at.false),
+        omega (arith, c.requires.2),
+        c.requires.5,
       ),
     )
 
 pub read_sequence-returns-in_err-d : goal.read_sequence-returns-in_err-d
 read_sequence-returns-in_err-d t c =
     let p = err_from_is_err_and c.from_residual.result c.from_residual.ensures.1 in
-    rw (p.1, p.2) (let sound = c.requires.0.row c.args.row c.requires.1 in
+    rw (p.1, p.2) (let sound = c.args.table.now.sound.row c.args.row c.requires.0 in
     let below = below_known 8 c.args.msg.now (λ i. (c.type_inv.msg i).fits) in
-    let is = Laws.sequence_members _ _ _ _ _ _ c.requires.2 sound c.requires.5 _ _ _ 0
+    let is = Laws.sequence_members _ _ _ _ _ _ c.requires.1 sound c.requires.4 _ _ _ 0
     c.row_first-first.ensures
-    c.row_count-n.ensures c.count_marked-bits.ensures.0 below (Sequences.preamble_got _ _ _ c.requires.2
+    c.row_count-n.ensures c.count_marked-bits.ensures.0 below (Sequences.preamble_got _ _ _ c.requires.1
     c.if-msg-at.false _ c.is_padded.ensures c.if-not-is_padded.false) in
     Ran.ran_fault _ (Chains.group_stops 10 _ is _ c.read_members.ensures _ c.in_err-d.was))
 
 pub read_sequence-returns : goal.read_sequence-returns
 read_sequence-returns t c =
-    let sound = c.requires.0.row c.args.row c.requires.1 in
+    let sound = c.args.table.now.sound.row c.args.row c.requires.0 in
     let below = below_known 8 c.args.msg.now (λ i. (c.type_inv.msg i).fits) in
-    let is = Laws.sequence_members _ _ _ _ _ _ c.requires.2 sound c.requires.5 _ _ _ 0
+    let is = Laws.sequence_members _ _ _ _ _ _ c.requires.1 sound c.requires.4 _ _ _ 0
     c.row_first-first.ensures
-    c.row_count-n.ensures c.count_marked-bits.ensures.0 below (Sequences.preamble_got _ _ _ c.requires.2
+    c.row_count-n.ensures c.count_marked-bits.ensures.0 below (Sequences.preamble_got _ _ _ c.requires.1
     c.if-msg-at.false _ c.is_padded.ensures c.if-not-is_padded.false) in
     Chains.group_goes 10 _ is _ c.read_members.ensures _ _ c.in_ok-d.was c.put_node.ensures
     (omega arith) refl
 
 pub read_sequence_of-component_row-inner-requires : goal.read_sequence_of-component_row-inner-requires
 read_sequence_of-component_row-inner-requires t c =
-    let sound = c.requires.0.row c.args.row c.requires.1 in
-    let row = sequence_of_row _ _ _ sound c.requires.5 in
+    let sound = c.args.table.now.sound.row c.args.row c.requires.0 in
+    let row = sequence_of_row _ _ _ sound c.requires.4 in
     omega (arith, row.range, row.one, c.row_first.ensures)
 
 pub read_sequence_of-read_members-requires : goal.read_sequence_of-read_members-requires
 read_sequence_of-read_members-requires t c =
-    let sound = c.requires.0.row c.args.row c.requires.1 in
-    let row = sequence_of_row _ _ _ sound c.requires.5 in
+    let sound = c.args.table.now.sound.row c.args.row c.requires.0 in
+    let row = sequence_of_row _ _ _ sound c.requires.4 in
     let y = c.read_quantity.ensures.went _ c.in_ok-q.was in
     let lt : c.component_row-inner.result < c.args.row = rw (c.component_row-inner.ensures, c.row_first.ensures)
     row.lower in (
       omega arith,
       (
-        c.requires.0,
-        omega (arith, c.requires.1),
+        omega (arith, c.requires.0),
         Laws.members_alone lt,
-        c.requires.2,
+        c.requires.1,
         y.inside,
-        omega (arith, y.ahead, c.requires.3),
-        c.requires.6,
+        omega (arith, y.ahead, c.requires.2),
+        c.requires.5,
       ),
     )
 
 pub read_sequence_of-returns-in_err-q : goal.read_sequence_of-returns-in_err-q
 read_sequence_of-returns-in_err-q t c =
     let p = err_from_is_err_and c.from_residual.result c.from_residual.ensures.1 in
-    rw (p.1, p.2) (let sound = c.requires.0.row c.args.row c.requires.1 in
-    Ran.ran_fault _ (Elements.quantity_stops _ _ _ _ _ _ c.requires.2 sound c.requires.5
+    rw (p.1, p.2) (let sound = c.args.table.now.sound.row c.args.row c.requires.0 in
+    Ran.ran_fault _ (Elements.quantity_stops _ _ _ _ _ _ c.requires.1 sound c.requires.4
     c.read_quantity.ensures _ c.in_err-q.was))
 
 pub read_sequence_of-returns-in_err-d : goal.read_sequence_of-returns-in_err-d
 read_sequence_of-returns-in_err-d t c =
     let p = err_from_is_err_and c.from_residual-in_err-d.result c.from_residual-in_err-d.ensures.1 in
-    rw (p.1, p.2) (let sound = c.requires.0.row c.args.row c.requires.1 in
-    let is = Laws.quantity_members _ _ _ _ _ _ c.requires.2 sound c.requires.5
+    rw (p.1, p.2) (let sound = c.args.table.now.sound.row c.args.row c.requires.0 in
+    let is = Laws.quantity_members _ _ _ _ _ _ c.requires.1 sound c.requires.4
     c.read_quantity.ensures _ _ _ _
     c.in_ok-q.was c.row_first.ensures c.component_row-inner.ensures in
     Ran.ran_fault _ (Chains.group_stops 11 _ is _ c.read_members.ensures _ c.in_err-d.was))
 
 pub read_sequence_of-returns : goal.read_sequence_of-returns
 read_sequence_of-returns t c =
-    let sound = c.requires.0.row c.args.row c.requires.1 in
-    let is = Laws.quantity_members _ _ _ _ _ _ c.requires.2 sound c.requires.5
+    let sound = c.args.table.now.sound.row c.args.row c.requires.0 in
+    let is = Laws.quantity_members _ _ _ _ _ _ c.requires.1 sound c.requires.4
     c.read_quantity.ensures _ _ _ _
     c.in_ok-q.was c.row_first.ensures c.component_row-inner.ensures in
     let y = c.read_quantity.ensures.went _ c.in_ok-q.was in

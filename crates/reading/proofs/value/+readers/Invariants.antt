@@ -30,5 +30,5 @@ decreases-read_sequence_of l = l.row * 4 + 2
 abbrev pub invariant-read_members-loop-i : goal.invariant-read_members-loop-i
 invariant-read_members-loop-i l = (length l.nodes ≡ length l.initial.nodes) × (length l.contents ≡ length l.initial.contents)
     × ((l.reached.at ≤ length l.msg) × (l.reached.used ≤ l.reached.at) × (l.b ≤ l.bit + l.i)
-    × Chain (members l.rows l.items l.msg l.inner l.listed l.pre l.n l.first l.bit (message (drop l.initial.reached.at l.msg) l.initial.reached.count)) l.initial.reached.at l.initial.reached.count l.initial.reached.used l.initial.nodes l.initial.contents
-    (members l.rows l.items l.msg l.inner l.listed l.pre (l.n - l.i) (l.first + l.i) l.b (message (drop l.reached.at l.msg) l.reached.count)) l.reached.at l.reached.count l.reached.used l.reached.number l.nodes l.contents)
+    × Chain (members l.table.rows.now l.table.items.now l.msg l.inner l.listed l.pre l.n l.first l.bit (message (drop l.initial.reached.at l.msg) l.initial.reached.count)) l.initial.reached.at l.initial.reached.count l.initial.reached.used l.initial.nodes l.initial.contents
+    (members l.table.rows.now l.table.items.now l.msg l.inner l.listed l.pre (l.n - l.i) (l.first + l.i) l.b (message (drop l.reached.at l.msg) l.reached.count)) l.reached.at l.reached.count l.reached.used l.reached.number l.nodes l.contents)

@@ -7,13 +7,12 @@ use Rattle.reading.proofs.value.read_value.Goals as goal
 
 pub read_members-requires : goal.read_members-requires
 read_members-requires c = (
-  c.requires.0,
-  omega (arith, c.requires.1),
+  omega (arith, c.requires.0),
   members_alone (omega arith),
-  c.requires.2,
+  c.requires.1,
+  c.requires.1,
   c.requires.2,
   c.requires.3,
-  c.requires.4,
 )
 
 pub returns : goal.returns
