@@ -2,7 +2,6 @@
 // The order is document 01's: 1, 2, 3; LONG of the message; the first fault in reading order; LEFT OVER; ROOM.
 ghost use Rattle.std.specs.Prelude.{◌≡◌, ◌/◌, ◌<◌, ◌≤◌, length};
 ghost use Rattle.x696.specs.Table.{row_width, type_of};
-ghost use Rattle.x696.specs.SoundTable.{SoundTable};
 ghost use Rattle.x696.specs.Reply.{in_part};
 ghost use Rattle.x696.specs.Operations.{read_message, value_in, validate as validated, decode as decoded};
 ghost use Rattle.table.specs.Replies.{as_reply};
@@ -12,7 +11,8 @@ use octets::faults::{Cause, Part, Refusal};
 use reading::value::read_value;
 use table::check::judge;
 use table::reply::{Reply, done};
-use table::words::rows_in;
+use table::sound::Table;
+use table::words::{rows_in};
 
 // Whether a table is sound and has the asked row; or the refusal: 1, 2, 3.
 pub fn asked_row(rows: &[u64], items: &[u64], row: u64) -> Result<(), Refusal>
@@ -34,9 +34,9 @@ pub struct Counts {
 }
 
 // Reads the whole message with nothing lent: 4, the first fault, 9.
-fn survey_message(rows: &[u64], items: &[u64], row: usize, msg: &[u8]) -> Result<Counts, Refusal>
-    requires { SoundTable rows.now items.now × (row < length rows.now / row_width) }
-    ensures { ValueAnswer (in_part 1 (read_message (type_of rows.now items.now row) msg.now)) result }
+fn survey_message(table: &Table, row: usize, msg: &[u8]) -> Result<Counts, Refusal>
+    requires { row < length table.now.rows.now / row_width }
+    ensures { ValueAnswer (in_part 1 (read_message (type_of table.now.rows.now table.now.items.now row) msg.now)) result }
 {
     let long = 65535 < msg.len();
     if long {
@@ -44,10 +44,7 @@ fn survey_message(rows: &[u64], items: &[u64], row: usize, msg: &[u8]) -> Result
     }
     let mut nodes = [0u64; 1];
     let mut contents = [0u8; 1];
-    match read_value(
-        rows,
-        items,
-        row,
+    match read_value(table, row,
         msg,
         0,
         0,

@@ -1,3 +1,4 @@
 pub mod Replies
 pub mod Orders
 pub mod Judged
+pub mod Checked

@@ -6,6 +6,7 @@ ghost use Rattle.x696.specs.Table.{tag_class, tag_number, alternative_row};
 ghost use Rattle.x696.specs.SoundTable.{SoundTable};
 
 use crate::bounds::Bounds;
+use crate::check::{TableFault, judge};
 use crate::words::{
     alternative_row, component_default, component_mark, component_row, row_bounds, row_count,
     row_first, row_kind, tag_class, tag_number,
@@ -19,6 +20,16 @@ pub struct Table<'a> {
 }
 
 impl<'a> Table<'a> {
+    ghost use Rattle.table.specs.Checked.{Checked};
+
+    // The table of these rows and items, if its check finds no fault.
+    pub fn checked(rows: &'a [u64], items: &'a [u64]) -> Result<Self, TableFault>
+        ensures { Checked rows.now items.now result }
+    {
+        judge(rows, items)?;
+        Ok(Table { rows, items })
+    }
+
     pub fn row_kind(&self, row: usize) -> u64
         requires { row < length self.now.rows.now / row_width }
         ensures { result ≡ row_kind self.now.rows.now row }
