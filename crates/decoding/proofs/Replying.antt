@@ -21,22 +21,25 @@ use Rattle.x696.specs.Operations.{node_limit, octet_limit, usable, asked, read_m
 use Rattle.x696.specs.Operations.{decodable, decode}
 use Rattle.table.specs.Replies.{as_reply, as_answer, refused_reply}
 use Rattle.table.specs.Judged.{as_fault, table_refusal}
+use Rattle.table.specs.Checked.{Checked}
+use Rattle.table.specs.declared.sound.Table.{Table}
 use Rattle.table.specs.declared.reply.Reply.{Reply}
 use Rattle.table.specs.declared.check.TableFault.{TableFault}
 use Rattle.table.specs.declared.check.TableFault.TheVariants.{Size, Row}
-use Rattle.std.specs.Prelude.{Result, Ok, Err, ⊤}
+use Rattle.std.specs.Prelude.{Result, Ok, Err}
 use Rattle.octets.specs.Cause.{code_of}
 use Rattle.octets.specs.Part.{part_of, refused as refusing}
 use Rattle.octets.specs.declared.faults.Cause.{Cause}
 use Rattle.octets.specs.declared.faults.Cause.TheVariants.{UnknownType, Room}
 use Rattle.octets.specs.declared.faults.Part.{Part}
-use Rattle.octets.specs.declared.faults.Part.TheVariants.{Table, Result as ResultPart}
+use Rattle.octets.specs.declared.faults.Part.TheVariants.{Table as TablePart, Result as ResultPart}
 use Rattle.octets.specs.declared.faults.Refusal.{Refusal}
 use Rattle.octets.specs.declared.faults.Fault.{Fault}
 use Rattle.kinds.specs.Run.{Gone, Ran}
-use Rattle.decoding.specs.Replied.{Refuses, AskedAnswer, Handed, ValueAnswer, Decodes}
+use Rattle.decoding.specs.Replied.{Refuses, AskedAnswer, Handed, ValueAnswer, PutsValue, Decodes}
 use Rattle.kinds.specs.declared.cursor.Cursor.{Cursor}
 use Rattle.decoding.specs.declared.operations.Counts.{Counts}
+use mathlib.Core.Path.{ap}
 use Rattle.kinds.proofs.Ran.{offset_is}
 
 zero_one : {A : Type 0} → ◌≡◌ {A = ℕ} 0 1 → A
@@ -55,38 +58,45 @@ row_fault sound e = zero_one cc
 row_fault bad_size e = zero_one cc
 row_fault (bad_row j) e = cc
 
-no_fault : (x : Meant) → as_fault x ≡ Ok tt → x ≡ sound
-unfolding as_fault
-no_fault sound e = refl
-no_fault bad_size e = zero_one cc
-no_fault (bad_row k) e = zero_one cc
+-- the same value handed on
+value_or : {A E : Type 0} → A → Result A E → A
+value_or d (Ok x) = x
+value_or d (Err f) = d
 
-module _ (rows items : List ℕ) (row : ℕ) {f : Result ⊤ TableFault} (ef : f ≡ as_fault (table_fault rows items)) where
+handed : {A E F : Type 0} {x y : A} → ◌≡◌ {A = Result A E} (Ok x) (Ok y) → ◌≡◌ {A = Result A F} (Ok x) (Ok y)
+unfolding value_or
+handed {x = x} e = ap Ok (ap (value_or x) e)
+
+module _ (rows items : List ℕ) (row : ℕ) where
   stop : {x : Refusal} → asked rows items row ≡ as_answer x → AskedAnswer rows items row (Err x)
   stop {x} e = record {
-    ready = λ z. zero_one cc;
+    ready = λ t z. zero_one cc;
     stopped = λ y z. let w : x ≡ y = cc in rw (← w) (record { is = e });
   }
 
-  pub asked_fault : (g : TableFault) {x : Refusal} → f ≡ Err g → x ≡ table_refusal g → AskedAnswer rows items row (Err x)
-  unfolding asked usable
-  asked_fault Size e h = rw h (stop (rw (size_fault (table_fault rows items) (sym ef ∙ e))))
-  asked_fault (Row k) e h = rw h (stop (rw (row_fault (table_fault rows items) (sym ef ∙ e))))
+  module _ {r : Result Table TableFault} (h : Checked rows items r) where
+    pub asked_fault : (g : TableFault) {x : Refusal} → r ≡ Err g → x ≡ table_refusal g
+        → AskedAnswer rows items row (Err x)
+    unfolding asked usable
+    asked_fault Size e g = rw g (stop (rw (size_fault (table_fault rows items) (h.stopped _ e))))
+    asked_fault (Row k) e g = rw g (stop (rw (row_fault (table_fault rows items) (h.stopped _ e))))
 
-  module _ (e : f ≡ Ok tt) {n : ℕ} (en : n ≡ length rows / row_width) where
-    pub asked_none : {x : Refusal} → n ≤ row → x ≡ refusing UnknownType Table 0 → AskedAnswer rows items row (Err x)
-    unfolding asked usable unless
-    asked_none h g =
-        rw g (stop
-        (rw (no_fault (table_fault rows items) (sym ef ∙ e), le-ltb row (length rows / row_width) (omega arith))))
+    module _ {t : Table} (e : r ≡ Ok t) {n : ℕ} (en : n ≡ length rows / row_width) where
+      pub asked_none : {x : Refusal} → n ≤ row → x ≡ refusing UnknownType TablePart 0
+          → AskedAnswer rows items row (Err x)
+      unfolding asked usable unless
+      asked_none l g =
+          rw g (stop (rw ((h.went t e).2, le-ltb row (length rows / row_width) (omega arith))))
 
-pub asked_there : (rows items : List ℕ) (row : ℕ) {f : Result ⊤ TableFault} → f ≡ as_fault (table_fault rows items)
-    → f ≡ Ok tt → {n : ℕ} → n ≡ length rows / row_width → row < n → AskedAnswer rows items row (Ok tt)
-unfolding asked usable unless
-asked_there rows items row ef e en h =
-    let q = no_fault (table_fault rows items) (sym ef ∙ e) in
-    let l : row < length rows / row_width = omega arith in
-    record { ready = λ _. (q, l, rw (q, lt-ltb row (length rows / row_width) l)); stopped = λ y z. zero_one cc }
+      pub asked_there : row < n → AskedAnswer rows items row (Ok t)
+      unfolding asked usable unless
+      asked_there l = record {
+        ready = λ u f.
+            let w = h.went u (e ∙ handed f) in
+            let less : row < length rows / row_width = omega arith in
+            (w.0, w.1, w.2, less, rw (w.2, lt-ltb row (length rows / row_width) less));
+        stopped = λ y z. zero_one cc;
+      }
 
 -- ---- a value, or a refusal
 module _ {a : Answer Val} where
@@ -107,10 +117,14 @@ module _ (rows items : List ℕ) (row : ℕ) (msg : List ℕ) where
   unfolding value_in then
   valued_stop h = value_stop (rw h.is) refl
 
-  pub valued_by : asked rows items row ≡ done (type_of rows items row) → {r : Result Counts Refusal}
-      → ValueAnswer (in_part 1 (read_message (type_of rows items row) msg)) r → ValueAnswer (value_in rows items row msg) r
+  pub valued_by : {t : Table} {r : Result Table Refusal} → AskedAnswer rows items row r → r ≡ Ok t
+      → {c : Result Counts Refusal}
+      → ValueAnswer (in_part 1 (read_message (type_of t.rows.now t.items.now row) msg)) c
+      → ValueAnswer (value_in rows items row msg) c
   unfolding value_in then
-  valued_by e w = value_by (rw e) w
+  valued_by {t} a e w =
+      let h = a.ready t e in
+      value_by (rw h.4) (rw (h.0, h.1) at w)
 
 -- ---- a whole message
 module _ (t : Ty) (msg : List ℕ) where
@@ -225,39 +239,32 @@ module _ (rows items : List ℕ) (row : ℕ) (msg : List ℕ) where
     abbrev decoding : Decoded
     decoding = decode rows items row msg ns cs
 
-    decode_no : {n q p : ℕ} {x : Reply} → decodable rows items row msg ns cs ≡ refusal n q p
-        → x ≡ as_reply (refusal_reply n q p)
-        → Decodes decoding ns cs x
+    decode_no : {x : Refusal} → decodable rows items row msg ns cs ≡ as_answer x → PutsValue decoding ns cs (Err x)
     unfolding decode answer
-    decode_no e h = rw e (record { reply = h; listed = refl; copied = refl })
+    decode_no e = rw e (record { reply = refl; listed = refl; copied = refl })
 
-    pub decode_stop : {x : Refusal} {q : Reply} → Refuses valued x → q ≡ refused_reply x → Decodes decoding ns cs q
+    pub decode_stop : {x : Refusal} → Refuses valued x → PutsValue decoding ns cs (Err x)
     unfolding decodable then
-    decode_stop r e = decode_no (rw r.is) e
-
-    -- 12 in part 4
-    no_room : {x : Refusal} {q : Reply} → x ≡ refusing Room ResultPart 0 → q ≡ refused_reply x
-        → q ≡ as_reply (refusal_reply 12 4 0)
-    no_room e h = h ∙ rw e
+    decode_stop r = decode_no (rw r.is)
 
     module _ {c : Counts} (h : Handed valued c) where
-      pub decode_nodes : length ns / 2 < c.nodes → {x : Refusal} {q : Reply} → x ≡ refusing Room ResultPart 0
-          → q ≡ refused_reply x → Decodes decoding ns cs q
+      pub decode_nodes : length ns / 2 < c.nodes → {x : Refusal} → x ≡ refusing Room ResultPart 0
+          → PutsValue decoding ns cs (Err x)
       unfolding decodable then unless
-      decode_nodes l e g =
-          decode_no (rw (h.is, lt-leb (size h.what * node_width) (length ns) (omega (arith, h.nodes)))) (no_room e g)
+      decode_nodes l e =
+          rw e (decode_no (rw (h.is, lt-leb (size h.what * node_width) (length ns) (omega (arith, h.nodes)))))
 
       module _ (room : c.nodes ≤ length ns / 2) where
-        pub decode_contents : length cs < c.octets → {x : Refusal} {q : Reply} → x ≡ refusing Room ResultPart 0
-            → q ≡ refused_reply x → Decodes decoding ns cs q
+        pub decode_contents : length cs < c.octets → {x : Refusal} → x ≡ refusing Room ResultPart 0
+            → PutsValue decoding ns cs (Err x)
         unfolding decodable then unless
-        decode_contents l e g =
-            decode_no
+        decode_contents l e =
+            rw e (decode_no
             (rw (
               h.is,
               le-leb (size h.what * node_width) (length ns) (omega (arith, h.nodes)),
               lt-leb (length (contents h.what)) (length cs) (omega (arith, h.octets)),
-            )) (no_room e g)
+            )))
 
         module _ (space : c.octets ≤ length cs) where
           fits : decodable rows items row msg ns cs ≡ done h.what
@@ -272,13 +279,13 @@ module _ (rows items : List ℕ) (row : ℕ) (msg : List ℕ) where
           -- read again with the buffers lent: the value's list stands at their fronts
           pub decode_done : {ns' cs' : List ℕ} (r : Result Cursor Fault)
               → Ran msg (read node_limit (type_of rows items row) (length msg) (message msg 0)) 0 0 0 ns cs ns' cs' r
-              → {x : Reply} → x ≡ as_reply (done_reply c.nodes c.octets) → Decodes decoding ns' cs' x
+              → PutsValue decoding ns' cs' (Ok c)
           unfolding decode answer over
-          decode_done (Err f) w e =
+          decode_done (Err f) w =
               let k = value_known rows items row msg h.is in
               let z : got h.what k.rest ≡ refused (code_of f.cause) f.place = sym k.reads ∙ w.stopped f refl in
               zero_one cc
-          decode_done {ns'} {cs'} (Ok d) w e =
+          decode_done {ns'} {cs'} (Ok d) w =
               let k = value_known rows items row msg h.is in
               let g = w.went d refl in
               let q : got h.what k.rest ≡ got g.what (message (drop d.at msg) d.count) = sym k.reads ∙ g.reads in
@@ -286,7 +293,16 @@ module _ (rows items : List ℕ) (row : ℕ) (msg : List ℕ) where
               let few : length (nodes h.what) ≤ length ns = omega (arith, nodes_length h.what, h.nodes) in
               let less : length (contents h.what) ≤ length cs = omega (arith, h.octets) in
               rw fits (record {
-                reply = e ∙ rw (h.nodes, h.octets);
+                reply = rw (h.nodes, h.octets);
                 listed = g.stored ∙ rw v (sets_whole (nodes h.what) ns few);
                 copied = g.copied ∙ rw v (sets_whole (contents h.what) cs less);
               })
+
+-- ---- the reply of what was put, or of the refusal
+module _ {d : Decoded} {ns cs : List ℕ} {q : Reply} where
+  pub reply_done : {c : Counts} → PutsValue d ns cs (Ok c) → q ≡ as_reply (done_reply c.nodes c.octets)
+      → Decodes d ns cs q
+  reply_done p e = record { reply = e ∙ ap as_reply p.reply; listed = p.listed; copied = p.copied }
+
+  pub reply_refuses : {x : Refusal} → PutsValue d ns cs (Err x) → q ≡ refused_reply x → Decodes d ns cs q
+  reply_refuses p e = record { reply = e ∙ ap as_reply p.reply; listed = p.listed; copied = p.copied }

@@ -1,8 +1,11 @@
 -- What the operations' parts answer, in the terms of `Answer`.
 -- Assumes nothing.
-use Rattle.std.specs.Prelude.{Result, Ok, Err, ⊤, ◌≡◌, List, ℕ, ◌/◌, ◌<◌, length}
+use Rattle.std.specs.Prelude.{Result, Ok, Err, ◌≡◌, List, ℕ, ◌/◌, ◌<◌, length}
 use Rattle.x696.specs.Value.{Val, size, contents}
-use Rattle.x696.specs.Reply.{Answer, done}
+use Rattle.x696.specs.Reply.{Reply as Meant, Answer, done, refusal_reply, done_reply}
+use Rattle.octets.specs.Cause.{code_of}
+use Rattle.octets.specs.Part.{part_of}
+use Rattle.table.specs.declared.sound.Table.{Table}
 use Rattle.x696.specs.Table.{row_width, type_of}
 use Rattle.x696.specs.TableFault.{sound, table_fault}
 use Rattle.x696.specs.Operations.{asked, Decoded}
@@ -16,9 +19,9 @@ pub record Refuses {A : Type 0} (a : Answer A) (x : Refusal) : Type 0 where
   pub is : a ≡ as_answer x
 
 -- a usable table and a row of it, or 1, 2, 3
-pub record AskedAnswer (rows items : List ℕ) (row : ℕ) (r : Result ⊤ Refusal) : Type 0 where
-  pub ready : r ≡ Ok tt
-      → (table_fault rows items ≡ sound) × (row < length rows / row_width)
+pub record AskedAnswer (rows items : List ℕ) (row : ℕ) (r : Result Table Refusal) : Type 0 where
+  pub ready : (t : Table) → r ≡ Ok t
+      → (t.rows.now ≡ rows) × (t.items.now ≡ items) × (table_fault rows items ≡ sound) × (row < length rows / row_width)
       × (asked rows items row ≡ done (type_of rows items row))
   pub stopped : (x : Refusal) → r ≡ Err x → Refuses (asked rows items row) x
 
@@ -36,5 +39,15 @@ pub record ValueAnswer (a : Answer Val) (r : Result Counts Refusal) : Type 0 whe
 -- decoding: the reply, and what each lent buffer then holds
 pub record Decodes (d : Decoded) (nodes contents : List ℕ) (r : Reply) : Type 0 where
   pub reply : r ≡ as_reply d.reply
+  pub listed : nodes ≡ d.nodes
+  pub copied : contents ≡ d.contents
+
+-- the same, told as the sizes of the value or the refusal
+abbrev pub value_reply : Result Counts Refusal → Meant
+value_reply (Ok c) = done_reply c.nodes c.octets
+value_reply (Err x) = refusal_reply (code_of x.cause) (part_of x.part) x.place
+
+pub record PutsValue (d : Decoded) (nodes contents : List ℕ) (r : Result Counts Refusal) : Type 0 where
+  pub reply : value_reply r ≡ d.reply
   pub listed : nodes ≡ d.nodes
   pub copied : contents ≡ d.contents

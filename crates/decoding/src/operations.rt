@@ -5,25 +5,24 @@ ghost use Rattle.x696.specs.Table.{row_width, type_of};
 ghost use Rattle.x696.specs.Reply.{in_part};
 ghost use Rattle.x696.specs.Operations.{read_message, value_in, validate as validated, decode as decoded};
 ghost use Rattle.table.specs.Replies.{as_reply};
-ghost use Rattle.decoding.specs.Replied.{AskedAnswer, ValueAnswer, Decodes};
+ghost use Rattle.decoding.specs.Replied.{AskedAnswer, ValueAnswer, PutsValue, Decodes};
 
 use octets::faults::{Cause, Part, Refusal};
 use reading::value::read_value;
-use table::check::judge;
 use table::reply::{Reply, done};
 use table::sound::Table;
-use table::words::{rows_in};
+use table::words::rows_in;
 
-// Whether a table is sound and has the asked row; or the refusal: 1, 2, 3.
-pub fn asked_row(rows: &[u64], items: &[u64], row: u64) -> Result<(), Refusal>
+// The table, if it is sound and has the asked row; or the refusal: 1, 2, 3.
+pub fn asked_table<'a>(rows: &'a [u64], items: &'a [u64], row: u64) -> Result<Table<'a>, Refusal>
     ensures { AskedAnswer rows.now items.now row result }
 {
-    judge(rows, items)?;
+    let table = Table::checked(rows, items)?;
     let past = rows_in(rows) as u64 <= row;
     if past {
         return Err(Cause::UnknownType.at(0).in_part(Part::Table));
     }
-    Ok(())
+    Ok(table)
 }
 
 // The sizes of a message's value.
@@ -44,7 +43,9 @@ fn survey_message(table: &Table, row: usize, msg: &[u8]) -> Result<Counts, Refus
     }
     let mut nodes = [0u64; 1];
     let mut contents = [0u8; 1];
-    match read_value(table, row,
+    match read_value(
+        table,
+        row,
         msg,
         0,
         0,
@@ -70,8 +71,8 @@ fn survey_message(table: &Table, row: usize, msg: &[u8]) -> Result<Counts, Refus
 pub fn survey(rows: &[u64], items: &[u64], row: u64, msg: &[u8]) -> Result<Counts, Refusal>
     ensures { ValueAnswer (value_in rows.now items.now row msg.now) result }
 {
-    asked_row(rows, items, row)?;
-    survey_message(rows, items, row as usize, msg)
+    let table = asked_table(rows, items, row)?;
+    survey_message(&table, row as usize, msg)
 }
 
 // Validate a message: the nodes and contents octets of its value.
@@ -83,6 +84,30 @@ pub fn validate(rows: &[u64], items: &[u64], row: u64, msg: &[u8]) -> Reply
         Ok(c) => done(c.nodes as u64, c.octets as u64),
         Err(refusal) => Reply::from(refusal),
     }
+}
+
+// The value list of a message, put at the front of the two lent buffers; or the refusal, with nothing put.
+fn put_value(
+    rows: &[u64],
+    items: &[u64],
+    row: u64,
+    msg: &[u8],
+    nodes: &mut [u64],
+    contents: &mut [u8],
+) -> Result<Counts, Refusal>
+    ensures { PutsValue (decoded rows.now items.now row msg.now nodes.old contents.old) nodes.new contents.new result }
+{
+    let table = asked_table(rows, items, row)?;
+    let value = survey_message(&table, row as usize, msg)?;
+    if nodes.len() / 2 < value.nodes {
+        return Err(Cause::Room.at(0).in_part(Part::Result));
+    }
+    let lacks = contents.len() < value.octets;
+    if lacks {
+        return Err(Cause::Room.at(0).in_part(Part::Result));
+    }
+    let _again = read_value(&table, row as usize, msg, 0, 0, 0, nodes, contents);
+    Ok(value)
 }
 
 // Decode a message: the same, and the value list at the front of the two lent buffers; 12 where either is too small. Words and octets
@@ -98,20 +123,8 @@ pub fn decode(
 ) -> Reply
     ensures { Decodes (decoded rows.now items.now row msg.now nodes.old contents.old) nodes.new contents.new result }
 {
-    match survey(rows, items, row, msg) {
+    match put_value(rows, items, row, msg, nodes, contents) {
+        Ok(c) => done(c.nodes as u64, c.octets as u64),
         Err(refusal) => Reply::from(refusal),
-        Ok(c) => {
-            let count = c.nodes;
-            let used = c.octets;
-            if nodes.len() / 2 < count {
-                return Reply::from(Cause::Room.at(0).in_part(Part::Result));
-            }
-            let lacks = contents.len() < used;
-            if lacks {
-                return Reply::from(Cause::Room.at(0).in_part(Part::Result));
-            }
-            let _again = read_value(rows, items, row as usize, msg, 0, 0, 0, nodes, contents);
-            done(count as u64, used as u64)
-        }
     }
 }
