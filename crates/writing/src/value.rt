@@ -11,7 +11,6 @@ ghost use Rattle.x696.specs.Encode.{encode, own_octets};
 ghost use Rattle.x696.specs.Walk.{walk, walk_component};
 ghost use Rattle.x696.specs.Table.{row_width, row_kind, component_default, type_of};
 ghost use Rattle.x696.specs.TableCheck.{default_sound};
-ghost use Rattle.x696.specs.SoundTable.{SoundTable};
 ghost use Rattle.pens.specs.Put.{Put, listed_at, walk_behind, node_octets};
 ghost use Rattle.reading.specs.Members.{Members, Member};
 ghost use Rattle.writing.specs.Members.{members, PutAll};
@@ -27,14 +26,11 @@ use octets::variable::put_quantity;
 use pens::leaf::write_leaf;
 use pens::pen::Pen;
 use reading::parts::{bit_of, count_marked, member_mark, member_row};
-use table::words::{
-    alternative_row, component_row, row_count, row_first, row_kind, tag_class, tag_number,
-};
+use table::sound::Table;
 
 // A value of a row at node `at`, with `used` contents octets before it; its octets go to `to`: a member alone.
 pub fn write_value(
-    rows: &[u64],
-    items: &[u64],
+    table: &Table,
     row: usize,
     nodes: &[u64],
     contents: &[u8],
@@ -43,12 +39,11 @@ pub fn write_value(
     to: usize,
     out: &mut [u8],
 ) -> Result<Pen, Fault>
-    requires { SoundTable rows.now items.now × (row < length rows.now / row_width) × (length nodes.now ≤ 8192) × (at * node_width ≤ length nodes.now) × (used ≤ length contents.now) × (length contents.now ≤ 65535) × (to ≤ 65536 + (at * node_octets + used)) }
-    ensures { Put nodes.now contents.now (walk (type_of rows.now items.now row) (listed_at nodes.now contents.now at used)) (λ v. encode (type_of rows.now items.now row) v) at used to out.old out.new result }
+    requires { (row < length table.now.rows.now / row_width) × (length nodes.now ≤ 8192) × (at * node_width ≤ length nodes.now) × (used ≤ length contents.now) × (length contents.now ≤ 65535) × (to ≤ 65536 + (at * node_octets + used)) }
+    ensures { Put nodes.now contents.now (walk (type_of table.now.rows.now table.now.items.now row) (listed_at nodes.now contents.now at used)) (λ v. encode (type_of table.now.rows.now table.now.items.now row) v) at used to out.old out.new result }
 {
     write_members(
-        rows,
-        items,
+        table,
         row + 1,
         row,
         false,
@@ -68,8 +63,7 @@ pub fn write_value(
 // a value of the row `inner`. A quantity is believed only as far as nodes go. Each is of a row below `above`.
 #[cycle(writers)]
 fn write_members(
-    rows: &[u64],
-    items: &[u64],
+    table: &Table,
     above: usize,
     inner: usize,
     listed: bool,
@@ -83,17 +77,16 @@ fn write_members(
     to: usize,
     out: &mut [u8],
 ) -> Result<Pen, Fault>
-    requires { SoundTable rows.now items.now × (above ≤ length rows.now / row_width) × Members rows.now items.now above inner listed first 0 n × (length nodes.now ≤ 8192) × (at * node_width ≤ length nodes.now) × (used ≤ length contents.now) × (length contents.now ≤ 65535) × (to ≤ 65536 + (at * node_octets + used)) × (to ≡ pre + (bit_octets (mark_count (members rows.now items.now inner listed first n)))) × (out.old ≡ sets out.old pre (replicate (bit_octets (mark_count (members rows.now items.now inner listed first n))) 0)) }
-    ensures { PutAll nodes.now contents.now (members rows.now items.now inner listed first n) (listed_at nodes.now contents.now at used) pre at used to out.old out.new result }
+    requires { (above ≤ length table.now.rows.now / row_width) × Members table.now.rows.now table.now.items.now above inner listed first 0 n × (length nodes.now ≤ 8192) × (at * node_width ≤ length nodes.now) × (used ≤ length contents.now) × (length contents.now ≤ 65535) × (to ≤ 65536 + (at * node_octets + used)) × (to ≡ pre + (bit_octets (mark_count (members table.now.rows.now table.now.items.now inner listed first n)))) × (out.old ≡ sets out.old pre (replicate (bit_octets (mark_count (members table.now.rows.now table.now.items.now inner listed first n))) 0)) }
+    ensures { PutAll nodes.now contents.now (members table.now.rows.now table.now.items.now inner listed first n) (listed_at nodes.now contents.now at used) pre at used to out.old out.new result }
 {
     let mut pen = Pen { at, used, to };
     let mut b = 0;
     for i in 0..n {
-        let mark = member_mark(items, listed, first + i);
-        let row = member_row(items, inner, listed, first + i);
+        let mark = member_mark(table, listed, first + i);
+        let row = member_row(table, inner, listed, first + i);
         pen = write_member(
-            rows,
-            items,
+            table,
             above,
             row,
             mark,
@@ -116,8 +109,7 @@ fn write_members(
 // what is not carried (31.9).
 #[cycle(writers)]
 fn write_member(
-    rows: &[u64],
-    items: &[u64],
+    table: &Table,
     above: usize,
     row: usize,
     mark: u64,
@@ -131,10 +123,10 @@ fn write_member(
     to: usize,
     out: &mut [u8],
 ) -> Result<Pen, Fault>
-    requires { SoundTable rows.now items.now × (above ≤ length rows.now / row_width) × Member rows.now items.now above row mark i b × (length nodes.now ≤ 8192) × (at * node_width ≤ length nodes.now) × (used ≤ length contents.now) × (length contents.now ≤ 65535) × (to ≤ 65536 + (at * node_octets + used)) × (pre ≤ to) }
-    ensures { Notes nodes.now contents.now mark (component_default items.now i) (type_of rows.now items.now row) (listed_at nodes.now contents.now at used) pre b at used to out.old out.new result }
+    requires { (above ≤ length table.now.rows.now / row_width) × Member table.now.rows.now table.now.items.now above row mark i b × (length nodes.now ≤ 8192) × (at * node_width ≤ length nodes.now) × (used ≤ length contents.now) × (length contents.now ≤ 65535) × (to ≤ 65536 + (at * node_octets + used)) × (pre ≤ to) }
+    ensures { Notes nodes.now contents.now mark (component_default table.now.items.now i) (type_of table.now.rows.now table.now.items.now row) (listed_at nodes.now contents.now at used) pre b at used to out.old out.new result }
 {
-    if member_missing(rows, items, row, mark, i, nodes, at) {
+    if member_missing(table, row, mark, i, nodes, at) {
         return Ok(Pen {
             at: at + 1,
             used,
@@ -142,14 +134,13 @@ fn write_member(
         });
     }
     note_presence(out, pre, b, mark);
-    write_row(rows, items, row, nodes, contents, at, used, to, out)
+    write_row(table, row, nodes, contents, at, used, to, out)
 }
 
 // A value by its row's kind: its node (11), then what stands behind it.
 #[cycle(writers)]
 fn write_row(
-    rows: &[u64],
-    items: &[u64],
+    table: &Table,
     row: usize,
     nodes: &[u64],
     contents: &[u8],
@@ -158,34 +149,43 @@ fn write_row(
     to: usize,
     out: &mut [u8],
 ) -> Result<Pen, Fault>
-    requires { SoundTable rows.now items.now × (row < length rows.now / row_width) × (length nodes.now ≤ 8192) × (at * node_width ≤ length nodes.now) × (used ≤ length contents.now) × (length contents.now ≤ 65535) × (to ≤ 65536 + (at * node_octets + used)) }
-    ensures { Put nodes.now contents.now (walk (type_of rows.now items.now row) (listed_at nodes.now contents.now at used)) (λ v. encode (type_of rows.now items.now row) v) at used to out.old out.new result }
+    requires { (row < length table.now.rows.now / row_width) × (length nodes.now ≤ 8192) × (at * node_width ≤ length nodes.now) × (used ≤ length contents.now) × (length contents.now ≤ 65535) × (to ≤ 65536 + (at * node_octets + used)) }
+    ensures { Put nodes.now contents.now (walk (type_of table.now.rows.now table.now.items.now row) (listed_at nodes.now contents.now at used)) (λ v. encode (type_of table.now.rows.now table.now.items.now row) v) at used to out.old out.new result }
 {
     if nodes.len() / 2 <= at {
         return Err(Cause::BadList.at(at));
     }
-    let kind = row_kind(rows, row);
+    let kind = table.row_kind(row);
     if node_kind(nodes, at) != kind {
         return Err(Cause::BadList.at(at));
     }
     let number = node_number(nodes, at);
     if kind < 10 {
-        return write_leaf(rows, items, row, number, contents, at, used, to, out);
+        return write_leaf(
+            table.rows,
+            table.items,
+            row,
+            number,
+            contents,
+            at,
+            used,
+            to,
+            out,
+        );
     }
     if kind == 10 {
-        return write_sequence(rows, items, row, number, nodes, contents, at, used, to, out);
+        return write_sequence(table, row, number, nodes, contents, at, used, to, out);
     }
     if kind == 11 {
-        return write_sequence_of(rows, items, row, number, nodes, contents, at, used, to, out);
+        return write_sequence_of(table, row, number, nodes, contents, at, used, to, out);
     }
-    write_choice(rows, items, row, number, nodes, contents, at, used, to, out)
+    write_choice(table, row, number, nodes, contents, at, used, to, out)
 }
 
 // Kind 10, behind its node: preamble, components (16.1).
 #[cycle(writers)]
 fn write_sequence(
-    rows: &[u64],
-    items: &[u64],
+    table: &Table,
     row: usize,
     number: u64,
     nodes: &[u64],
@@ -195,25 +195,24 @@ fn write_sequence(
     to: usize,
     out: &mut [u8],
 ) -> Result<Pen, Fault>
-    requires { SoundTable rows.now items.now × (row < length rows.now / row_width) × (length nodes.now ≤ 8192) × (suc at * node_width ≤ length nodes.now) × (used ≤ length contents.now) × (length contents.now ≤ 65535) × (to ≤ 65536 + (at * node_octets + used)) × (row_kind rows.now row ≡ 10) }
-    ensures { Put nodes.now contents.now (walk_behind (type_of rows.now items.now row) at number (listed_at nodes.now contents.now (suc at) used)) (λ v. encode (type_of rows.now items.now row) v) at used to out.old out.new result }
+    requires { (row < length table.now.rows.now / row_width) × (length nodes.now ≤ 8192) × (suc at * node_width ≤ length nodes.now) × (used ≤ length contents.now) × (length contents.now ≤ 65535) × (to ≤ 65536 + (at * node_octets + used)) × (row_kind table.now.rows.now row ≡ 10) }
+    ensures { Put nodes.now contents.now (walk_behind (type_of table.now.rows.now table.now.items.now row) at number (listed_at nodes.now contents.now (suc at) used)) (λ v. encode (type_of table.now.rows.now table.now.items.now row) v) at used to out.old out.new result }
 {
-    let n = row_count(rows, row);
-    if number != n {
+    let n = table.row_count(row);
+    if number != n as u64 {
         return Err(Cause::BadList.at(at));
     }
-    let first = row_first(rows, row) as usize;
+    let first = table.row_first(row);
     // `div_ceil` would be five instructions in place of two
-    let octets = (count_marked(items, first, n as usize) + 7) / 8;
+    let octets = (count_marked(table, first, n) + 7) / 8;
     put_zeros(out, to, octets);
     write_members(
-        rows,
-        items,
+        table,
         row,
         0,
         true,
         first,
-        n as usize,
+        n,
         nodes,
         contents,
         to,
@@ -227,8 +226,7 @@ fn write_sequence(
 // Kind 11, behind its node: quantity, occurrences (17.1).
 #[cycle(writers)]
 fn write_sequence_of(
-    rows: &[u64],
-    items: &[u64],
+    table: &Table,
     row: usize,
     number: u64,
     nodes: &[u64],
@@ -238,14 +236,13 @@ fn write_sequence_of(
     to: usize,
     out: &mut [u8],
 ) -> Result<Pen, Fault>
-    requires { SoundTable rows.now items.now × (row < length rows.now / row_width) × (length nodes.now ≤ 8192) × (suc at * node_width ≤ length nodes.now) × (used ≤ length contents.now) × (length contents.now ≤ 65535) × (to ≤ 65536 + (at * node_octets + used)) × (row_kind rows.now row ≡ 11) }
-    ensures { Put nodes.now contents.now (walk_behind (type_of rows.now items.now row) at number (listed_at nodes.now contents.now (suc at) used)) (λ v. encode (type_of rows.now items.now row) v) at used to out.old out.new result }
+    requires { (row < length table.now.rows.now / row_width) × (length nodes.now ≤ 8192) × (suc at * node_width ≤ length nodes.now) × (used ≤ length contents.now) × (length contents.now ≤ 65535) × (to ≤ 65536 + (at * node_octets + used)) × (row_kind table.now.rows.now row ≡ 11) }
+    ensures { Put nodes.now contents.now (walk_behind (type_of table.now.rows.now table.now.items.now row) at number (listed_at nodes.now contents.now (suc at) used)) (λ v. encode (type_of table.now.rows.now table.now.items.now row) v) at used to out.old out.new result }
 {
-    let inner = component_row(items, row_first(rows, row) as usize) as usize;
+    let inner = table.component_row(table.row_first(row));
     let p = put_quantity(out, to, Occurrences(number));
     write_members(
-        rows,
-        items,
+        table,
         row,
         inner,
         false,
@@ -264,8 +261,7 @@ fn write_sequence_of(
 // Kind 12, behind its node: tag, the chosen alternative (20.1).
 #[cycle(writers)]
 fn write_choice(
-    rows: &[u64],
-    items: &[u64],
+    table: &Table,
     row: usize,
     number: u64,
     nodes: &[u64],
@@ -275,18 +271,17 @@ fn write_choice(
     to: usize,
     out: &mut [u8],
 ) -> Result<Pen, Fault>
-    requires { SoundTable rows.now items.now × (row < length rows.now / row_width) × (length nodes.now ≤ 8192) × (suc at * node_width ≤ length nodes.now) × (used ≤ length contents.now) × (length contents.now ≤ 65535) × (to ≤ 65536 + (at * node_octets + used)) × (row_kind rows.now row ≡ 12) }
-    ensures { Put nodes.now contents.now (walk_behind (type_of rows.now items.now row) at number (listed_at nodes.now contents.now (suc at) used)) (λ v. encode (type_of rows.now items.now row) v) at used to out.old out.new result }
+    requires { (row < length table.now.rows.now / row_width) × (length nodes.now ≤ 8192) × (suc at * node_width ≤ length nodes.now) × (used ≤ length contents.now) × (length contents.now ≤ 65535) × (to ≤ 65536 + (at * node_octets + used)) × (row_kind table.now.rows.now row ≡ 12) }
+    ensures { Put nodes.now contents.now (walk_behind (type_of table.now.rows.now table.now.items.now row) at number (listed_at nodes.now contents.now (suc at) used)) (λ v. encode (type_of table.now.rows.now table.now.items.now row) v) at used to out.old out.new result }
 {
-    if row_count(rows, row) <= number {
+    if table.row_count(row) as u64 <= number {
         return Err(Cause::BadList.at(at));
     }
-    let i = row_first(rows, row) as usize + number as usize;
-    let p = put_tag(out, to, tag_class(items, i), tag_number(items, i));
-    let inner = alternative_row(items, i) as usize;
+    let i = table.row_first(row) + number as usize;
+    let p = put_tag(out, to, table.tag_class(i), table.tag_number(i));
+    let inner = table.alternative_row(i);
     write_members(
-        rows,
-        items,
+        table,
         row,
         inner,
         false,
@@ -304,8 +299,7 @@ fn write_choice(
 
 // A component with its mark and default: a value of a row, or the node alone that stands for what is not carried.
 pub fn write_component(
-    rows: &[u64],
-    items: &[u64],
+    table: &Table,
     row: usize,
     mark: u64,
     default: u64,
@@ -316,18 +310,18 @@ pub fn write_component(
     to: usize,
     out: &mut [u8],
 ) -> Result<Pen, Fault>
-    requires { SoundTable rows.now items.now × (row < length rows.now / row_width) × (length nodes.now ≤ 8192) × (at * node_width ≤ length nodes.now) × (used ≤ length contents.now) × (length contents.now ≤ 65535) × (to ≤ 65536 + (at * node_octets + used)) × ((1 < mark) → default_sound (type_of rows.now items.now row) «default» ≡ true) }
-    ensures { Put nodes.now contents.now (walk_component mark (type_of rows.now items.now row) (listed_at nodes.now contents.now at used)) (λ v. own_octets mark «default» (type_of rows.now items.now row) v) at used to out.old out.new result }
+    requires { (row < length table.now.rows.now / row_width) × (length nodes.now ≤ 8192) × (at * node_width ≤ length nodes.now) × (used ≤ length contents.now) × (length contents.now ≤ 65535) × (to ≤ 65536 + (at * node_octets + used)) × ((1 < mark) → default_sound (type_of table.now.rows.now table.now.items.now row) «default» ≡ true) }
+    ensures { Put nodes.now contents.now (walk_component mark (type_of table.now.rows.now table.now.items.now row) (listed_at nodes.now contents.now at used)) (λ v. own_octets mark «default» (type_of table.now.rows.now table.now.items.now row) v) at used to out.old out.new result }
 {
     if mark == 0 {
-        return write_value(rows, items, row, nodes, contents, at, used, to, out);
+        return write_value(table, row, nodes, contents, at, used, to, out);
     }
-    if is_missing(nodes, at, row_kind(rows, row), mark, default) {
+    if is_missing(nodes, at, table.row_kind(row), mark, default) {
         return Ok(Pen {
             at: at + 1,
             used,
             to,
         });
     }
-    write_value(rows, items, row, nodes, contents, at, used, to, out)
+    write_value(table, row, nodes, contents, at, used, to, out)
 }

@@ -24,19 +24,19 @@ use Rattle.writing.proofs.value.+writers.Goals as goal
 
 pub write_choice-returns-then-row_count-number : goal.write_choice-returns-then-row_count-number
 write_choice-returns-then-row_count-number t c =
-    let sound = c.requires.0.row c.args.row c.requires.1 in
+    let sound = c.args.table.now.sound.row c.args.row c.requires.0 in
     Putting.put_refused (Alternatives.place_none _ _ c.args.nodes.now c.args.contents.now _ _
-    c.args.used _ sound c.requires.7 _
+    c.args.used _ sound c.requires.6 _
     c.row_count.ensures c.if-row_count-number.true) c.at.ensures
 
 pub write_choice-overflow_add-i : goal.write_choice-overflow_add-i
 write_choice-overflow_add-i t c =
-    let sound = c.requires.0.row c.args.row c.requires.1 in
-    let row = choice_row _ _ _ sound c.requires.7 in
+    let sound = c.args.table.now.sound.row c.args.row c.requires.0 in
+    let row = choice_row _ _ _ sound c.requires.6 in
     omega (
       arith,
       row.range,
-      c.requires.0.few_items,
+      c.args.table.now.sound.few_items,
       c.row_first.ensures,
       c.row_count.ensures,
       c.if-row_count-number.false,
@@ -44,34 +44,34 @@ write_choice-overflow_add-i t c =
 
 pub write_choice-tag_class-requires : goal.write_choice-tag_class-requires
 write_choice-tag_class-requires t c =
-    let sound = c.requires.0.row c.args.row c.requires.1 in
-    let row = choice_row _ _ _ sound c.requires.7 in
+    let sound = c.args.table.now.sound.row c.args.row c.requires.0 in
+    let row = choice_row _ _ _ sound c.requires.6 in
     omega (arith, row.range, c.row_first.ensures, c.row_count.ensures, c.if-row_count-number.false)
 
 pub write_choice-tag_number-requires : goal.write_choice-tag_number-requires
 write_choice-tag_number-requires t c =
-    let sound = c.requires.0.row c.args.row c.requires.1 in
-    let row = choice_row _ _ _ sound c.requires.7 in
+    let sound = c.args.table.now.sound.row c.args.row c.requires.0 in
+    let row = choice_row _ _ _ sound c.requires.6 in
     omega (arith, row.range, c.row_first.ensures, c.row_count.ensures, c.if-row_count-number.false)
 
 pub write_choice-put_tag-p-requires : goal.write_choice-put_tag-p-requires
 write_choice-put_tag-p-requires t c =
-    let sound = c.requires.0.row c.args.row c.requires.1 in
-    let row = choice_row _ _ _ sound c.requires.7 in
+    let sound = c.args.table.now.sound.row c.args.row c.requires.0 in
+    let row = choice_row _ _ _ sound c.requires.6 in
     let one = row.alternative c.args.number (rw (← c.row_count.ensures) c.if-row_count-number.false) in
     let few : c.tag_number.result ≤ 2097151 = rw (c.tag_number.ensures, c.row_first.ensures) one.number in
     (omega arith, rw (c.tag_class.ensures, c.row_first.ensures) one.class, omega (arith, few))
 
 pub write_choice-alternative_row-inner-requires : goal.write_choice-alternative_row-inner-requires
 write_choice-alternative_row-inner-requires t c =
-    let sound = c.requires.0.row c.args.row c.requires.1 in
-    let row = choice_row _ _ _ sound c.requires.7 in
+    let sound = c.args.table.now.sound.row c.args.row c.requires.0 in
+    let row = choice_row _ _ _ sound c.requires.6 in
     omega (arith, row.range, c.row_first.ensures, c.row_count.ensures, c.if-row_count-number.false)
 
 pub write_choice-write_members-requires : goal.write_choice-write_members-requires
 write_choice-write_members-requires t c =
-    let sound = c.requires.0.row c.args.row c.requires.1 in
-    let row = choice_row _ _ _ sound c.requires.7 in
+    let sound = c.args.table.now.sound.row c.args.row c.requires.0 in
+    let row = choice_row _ _ _ sound c.requires.6 in
     let one = row.alternative c.args.number (rw (← c.row_count.ensures) c.if-row_count-number.false) in
     let lt : c.alternative_row-inner.result < c.args.row = rw (
       c.alternative_row-inner.ensures,
@@ -79,14 +79,13 @@ write_choice-write_members-requires t c =
     ) one.lower in (
       omega arith,
       (
-        c.requires.0,
-        omega (arith, c.requires.1),
+        omega (arith, c.requires.0),
         members_alone lt,
-        c.requires.2,
-        omega (arith, c.requires.3),
+        c.requires.1,
+        omega (arith, c.requires.2),
+        c.requires.3,
         c.requires.4,
-        c.requires.5,
-        omega (arith, c.requires.6, c.put_tag-p.ensures.2),
+        omega (arith, c.requires.5, c.put_tag-p.ensures.2),
         Copies.no_preamble _ _ _ _ _,
         Copies.no_zeros _ _ _ _ _ _,
       ),
@@ -94,80 +93,79 @@ write_choice-write_members-requires t c =
 
 pub write_choice-returns : goal.write_choice-returns
 write_choice-returns t c =
-    let sound = c.requires.0.row c.args.row c.requires.1 in
+    let sound = c.args.table.now.sound.row c.args.row c.requires.0 in
     Alternatives.chosen_goes _ _ c.args.nodes.now c.args.contents.now _ _ c.args.used _
-    sound c.requires.7 _ c.row_count.ensures c.if-row_count-number.false _ _
+    sound c.requires.6 _ c.row_count.ensures c.if-row_count-number.false _ _
     c.row_first.ensures refl _ c.alternative_row-inner.ensures _ _ c.tag_class.ensures
     c.tag_number.ensures c.put_tag-p.ensures.0
     c.put_tag-p.ensures.1 c.put_tag-p.ensures.2 (Copies.alone _ _ _ c.write_members.ensures)
 
 pub write_member-member_missing-requires : goal.write_member-member_missing-requires
 write_member-member_missing-requires t c = (
-  omega (arith, c.requires.2.lower, c.requires.1),
-  λ h. (c.requires.2.marked h).0,
+  omega (arith, c.requires.1.lower, c.requires.0),
+  λ h. (c.requires.1.marked h).0,
   omega (
     arith,
+    c.requires.2,
     c.requires.3,
-    c.requires.4,
   ),
 )
 
 pub write_member-overflow_add-result : goal.write_member-overflow_add-result
-write_member-overflow_add-result t c = omega (arith, c.requires.3, c.requires.4)
+write_member-overflow_add-result t c = omega (arith, c.requires.2, c.requires.3)
 
 pub write_member-returns-then-member_missing : goal.write_member-returns-then-member_missing
 write_member-returns-then-member_missing t c =
-    let sound = c.requires.0.row c.args.row (omega (arith, c.requires.2.lower, c.requires.1)) in
-    Components.member_missing _ _ _ _ _ _ _ _ _ _ _ _ _ c.requires.2 sound _ c.member_missing.ensures
-    c.if-member_missing.true c.requires.5 refl
+    let sound = c.args.table.now.sound.row c.args.row (omega (arith, c.requires.1.lower, c.requires.0)) in
+    Components.member_missing _ _ _ _ _ _ _ _ _ _ _ _ _ c.requires.1 sound _ c.member_missing.ensures
+    c.if-member_missing.true c.requires.4 refl
 
 pub write_member-note_presence-requires : goal.write_member-note_presence-requires
 write_member-note_presence-requires t c = (
   omega (
     arith,
+    c.requires.6,
     c.requires.7,
-    c.requires.8,
+    c.requires.2,
     c.requires.3,
     c.requires.4,
     c.requires.5,
-    c.requires.6,
   ),
-  λ h. (c.requires.2.marked h).4,
+  λ h. (c.requires.1.marked h).4,
 )
 
 pub write_member-write_row-requires : goal.write_member-write_row-requires
 write_member-write_row-requires t c = (
   omega arith,
   (
-    c.requires.0,
-    omega (arith, c.requires.2.lower, c.requires.1),
+    omega (arith, c.requires.1.lower, c.requires.0),
+    c.requires.2,
     c.requires.3,
     c.requires.4,
     c.requires.5,
     c.requires.6,
-    c.requires.7,
   ),
 )
 
 pub write_member-returns : goal.write_member-returns
 write_member-returns t c =
-    let sound = c.requires.0.row c.args.row (omega (arith, c.requires.2.lower, c.requires.1)) in
-    Components.member_carried _ _ _ _ _ _ _ _ _ _ _ _ _ c.requires.2 sound _ c.member_missing.ensures
+    let sound = c.args.table.now.sound.row c.args.row (omega (arith, c.requires.1.lower, c.requires.0)) in
+    Components.member_carried _ _ _ _ _ _ _ _ _ _ _ _ _ c.requires.1 sound _ c.member_missing.ensures
     c.if-member_missing.false c.note_presence.ensures c.write_row.ensures
 
 pub write_members-loop-i-init : goal.write_members-loop-i-init
 write_members-loop-i-init t c = (
   refl,
   (
+    c.requires.3,
     c.requires.4,
-    c.requires.5,
     omega arith,
-    omega (arith, c.requires.8),
+    omega (arith, c.requires.7),
     omega
         arith,
     omega arith,
     Members.members_start _ _ c.args.nodes.now c.args.contents.now _ _ _ _ _ c.args.at
-        c.args.used c.requires.8 c.requires.9,
+        c.args.used c.requires.7 c.requires.8,
   ),
 )
 
@@ -175,47 +173,46 @@ pub write_members-overflow_add-first : goal.write_members-overflow_add-first
 write_members-overflow_add-first t c =
     omega (
       arith,
-      Laws.member_fits c.requires.2 c.loop-i.i c.loop-i-test.true
-          c.requires.0.few_items 18446744073709551615 (omega arith) (omega arith),
+      Laws.member_fits c.requires.1 c.loop-i.i c.loop-i-test.true
+          c.args.table.now.sound.few_items 18446744073709551615 (omega arith) (omega arith),
     )
 
 pub write_members-member_mark-mark-requires : goal.write_members-member_mark-mark-requires
-write_members-member_mark-mark-requires t c = λ e. Laws.member_inside c.requires.2 c.loop-i.i c.loop-i-test.true e
+write_members-member_mark-mark-requires t c = λ e. Laws.member_inside c.requires.1 c.loop-i.i c.loop-i-test.true e
 
 pub write_members-overflow_add-first-in-loop-i : goal.write_members-overflow_add-first-in-loop-i
 write_members-overflow_add-first-in-loop-i t c =
     omega (
       arith,
-      Laws.member_fits c.requires.2 c.loop-i.i c.loop-i-test.true
-          c.requires.0.few_items 18446744073709551615 (omega arith) (omega arith),
+      Laws.member_fits c.requires.1 c.loop-i.i c.loop-i-test.true
+          c.args.table.now.sound.few_items 18446744073709551615 (omega arith) (omega arith),
     )
 
 pub write_members-member_row-row-requires : goal.write_members-member_row-row-requires
-write_members-member_row-row-requires t c = λ e. Laws.member_inside c.requires.2 c.loop-i.i c.loop-i-test.true e
+write_members-member_row-row-requires t c = λ e. Laws.member_inside c.requires.1 c.loop-i.i c.loop-i-test.true e
 
 pub write_members-overflow_add-first-in-loop-i-2 : goal.write_members-overflow_add-first-in-loop-i-2
 write_members-overflow_add-first-in-loop-i-2 t c =
     omega (
       arith,
-      Laws.member_fits c.requires.2 c.loop-i.i c.loop-i-test.true
-          c.requires.0.few_items 18446744073709551615 (omega arith) (omega arith),
+      Laws.member_fits c.requires.1 c.loop-i.i c.loop-i-test.true
+          c.args.table.now.sound.few_items 18446744073709551615 (omega arith) (omega arith),
     )
 
 pub write_members-write_member-requires : goal.write_members-write_member-requires
 write_members-write_member-requires t c =
-    let one = Laws.member_known c.requires.2 c.loop-i.i c.loop-i-test.true c.loop-i.b
+    let one = Laws.member_known c.requires.1 c.loop-i.i c.loop-i-test.true c.loop-i.b
     (omega (arith, c.loop-i.invariant.1.4)) _ _ c.member_mark-mark.ensures c.member_row-row.ensures in
     let lt = one.lower in (
       omega (arith, lt),
       (
         c.requires.0,
-        c.requires.1,
         one,
-        c.requires.3,
+        c.requires.2,
         c.loop-i.invariant.1.0,
         c.loop-i.invariant.1.1,
-        c.requires.6,
-        omega (arith, c.loop-i.invariant.1.2, c.requires.7),
+        c.requires.5,
+        omega (arith, c.loop-i.invariant.1.2, c.requires.6),
         c.loop-i.invariant.1.3,
       ),
     )
@@ -268,26 +265,26 @@ write_row-returns-then-nodes-at t c =
 
 pub write_row-returns-then-node_kind-kind : goal.write_row-returns-then-node_kind-kind
 write_row-returns-then-node_kind-kind t c =
-    let sound = c.requires.0.row c.args.row c.requires.1 in
+    let sound = c.args.table.now.sound.row c.args.row c.requires.0 in
     Putting.put_refused (NodeTests.row_other _ _ _ sound _ c.args.contents.now _ c.args.used
     c.if-nodes-at.false c.row_kind-kind.ensures
     c.node_kind.ensures c.if-node_kind-kind.true) c.at-then-node_kind-kind.ensures
 
 pub write_row-write_leaf-requires : goal.write_row-write_leaf-requires
 write_row-write_leaf-requires t c =
-    let sound = c.requires.0.row c.args.row c.requires.1 in (
-      c.requires.1,
+    let sound = c.args.table.now.sound.row c.args.row c.requires.0 in (
+      c.requires.0,
       sound,
       omega (arith, c.row_kind-kind.ensures),
       omega (arith, c.if-nodes-at.false),
+      c.requires.3,
       c.requires.4,
       c.requires.5,
-      c.requires.6,
     )
 
 pub write_row-returns-then-kind-lt10 : goal.write_row-returns-then-kind-lt10
 write_row-returns-then-kind-lt10 t c =
-    let sound = c.requires.0.row c.args.row c.requires.1 in
+    let sound = c.args.table.now.sound.row c.args.row c.requires.0 in
     Putting.put_by (NodeTests.row_behind _ _ _ sound _ c.args.contents.now _ c.args.used
     c.if-nodes-at.false c.row_kind-kind.ensures c.node_kind.ensures
     c.if-node_kind-kind.false c.node_number-number.ensures)
@@ -299,18 +296,17 @@ write_row-write_sequence-requires t c = (
   (
     c.requires.0,
     c.requires.1,
-    c.requires.2,
     omega (arith, c.if-nodes-at.false),
+    c.requires.3,
     c.requires.4,
     c.requires.5,
-    c.requires.6,
     sym c.row_kind-kind.ensures ∙ c.if-kind-eq10.true,
   ),
 )
 
 pub write_row-returns-then-kind-eq10 : goal.write_row-returns-then-kind-eq10
 write_row-returns-then-kind-eq10 t c =
-    let sound = c.requires.0.row c.args.row c.requires.1 in
+    let sound = c.args.table.now.sound.row c.args.row c.requires.0 in
     Putting.put_by (NodeTests.row_behind _ _ _ sound _ c.args.contents.now _ c.args.used
     c.if-nodes-at.false c.row_kind-kind.ensures c.node_kind.ensures
     c.if-node_kind-kind.false c.node_number-number.ensures)
@@ -322,18 +318,17 @@ write_row-write_sequence_of-requires t c = (
   (
     c.requires.0,
     c.requires.1,
-    c.requires.2,
     omega (arith, c.if-nodes-at.false),
+    c.requires.3,
     c.requires.4,
     c.requires.5,
-    c.requires.6,
     sym c.row_kind-kind.ensures ∙ c.if-kind-eq11.true,
   ),
 )
 
 pub write_row-returns-then-kind-eq11 : goal.write_row-returns-then-kind-eq11
 write_row-returns-then-kind-eq11 t c =
-    let sound = c.requires.0.row c.args.row c.requires.1 in
+    let sound = c.args.table.now.sound.row c.args.row c.requires.0 in
     Putting.put_by (NodeTests.row_behind _ _ _ sound _ c.args.contents.now _ c.args.used
     c.if-nodes-at.false c.row_kind-kind.ensures c.node_kind.ensures
     c.if-node_kind-kind.false c.node_number-number.ensures)
@@ -341,25 +336,24 @@ write_row-returns-then-kind-eq11 t c =
 
 pub write_row-write_choice-requires : goal.write_row-write_choice-requires
 write_row-write_choice-requires t c =
-    let sound = c.requires.0.row c.args.row c.requires.1 in
+    let sound = c.args.table.now.sound.row c.args.row c.requires.0 in
     let known = kind_known _ _ _ sound in
     let twelve : c.row_kind-kind.result ≡ 12 = omega (arith, known.1, c.row_kind-kind.ensures) in (
       omega arith,
       (
         c.requires.0,
         c.requires.1,
-        c.requires.2,
         omega (arith, c.if-nodes-at.false),
+        c.requires.3,
         c.requires.4,
         c.requires.5,
-        c.requires.6,
         sym c.row_kind-kind.ensures ∙ twelve,
       ),
     )
 
 pub write_row-returns : goal.write_row-returns
 write_row-returns t c =
-    let sound = c.requires.0.row c.args.row c.requires.1 in
+    let sound = c.args.table.now.sound.row c.args.row c.requires.0 in
     Putting.put_by (NodeTests.row_behind _ _ _ sound _ c.args.contents.now _ c.args.used
     c.if-nodes-at.false c.row_kind-kind.ensures c.node_kind.ensures
     c.if-node_kind-kind.false c.node_number-number.ensures)
@@ -367,25 +361,25 @@ write_row-returns t c =
 
 pub write_sequence-returns-then-number-n : goal.write_sequence-returns-then-number-n
 write_sequence-returns-then-number-n t c =
-    let sound = c.requires.0.row c.args.row c.requires.1 in
+    let sound = c.args.table.now.sound.row c.args.row c.requires.0 in
     Putting.put_refused (Sequences.count_other _ _ c.args.nodes.now c.args.contents.now _ _
-    c.args.used _ sound c.requires.7 _ c.row_count-n.ensures
+    c.args.used _ sound c.requires.6 _ c.row_count-n.ensures
     c.if-number-n.true) c.at.ensures
 
 pub write_sequence-count_marked-requires : goal.write_sequence-count_marked-requires
 write_sequence-count_marked-requires t c =
-    let sound = c.requires.0.row c.args.row c.requires.1 in
-    let row = sequence_row _ _ _ sound c.requires.7 in
+    let sound = c.args.table.now.sound.row c.args.row c.requires.0 in
+    let row = sequence_row _ _ _ sound c.requires.6 in
     omega (arith, row.range, c.row_first-first.ensures, c.row_count-n.ensures)
 
 pub write_sequence-overflow_add-octets : goal.write_sequence-overflow_add-octets
 write_sequence-overflow_add-octets t c =
-    let sound = c.requires.0.row c.args.row c.requires.1 in
-    let row = sequence_row _ _ _ sound c.requires.7 in
+    let sound = c.args.table.now.sound.row c.args.row c.requires.0 in
+    let row = sequence_row _ _ _ sound c.requires.6 in
     omega (
       arith,
       row.range,
-      c.requires.0.few_items,
+      c.args.table.now.sound.few_items,
       c.row_first-first.ensures,
       c.row_count-n.ensures,
       c.count_marked.ensures.1,
@@ -393,13 +387,13 @@ write_sequence-overflow_add-octets t c =
 
 pub write_sequence-put_zeros-requires : goal.write_sequence-put_zeros-requires
 write_sequence-put_zeros-requires t c =
-    let sound = c.requires.0.row c.args.row c.requires.1 in
-    let row = sequence_row _ _ _ sound c.requires.7 in (
+    let sound = c.args.table.now.sound.row c.args.row c.requires.0 in
+    let row = sequence_row _ _ _ sound c.requires.6 in (
       omega arith,
       omega (
         arith,
         row.range,
-        c.requires.0.few_items,
+        c.args.table.now.sound.few_items,
         c.row_first-first.ensures,
         c.row_count-n.ensures,
         c.count_marked.ensures.1,
@@ -408,12 +402,12 @@ write_sequence-put_zeros-requires t c =
 
 pub write_sequence-overflow_add-to : goal.write_sequence-overflow_add-to
 write_sequence-overflow_add-to t c =
-    let sound = c.requires.0.row c.args.row c.requires.1 in
-    let row = sequence_row _ _ _ sound c.requires.7 in
+    let sound = c.args.table.now.sound.row c.args.row c.requires.0 in
+    let row = sequence_row _ _ _ sound c.requires.6 in
     omega (
       arith,
       row.range,
-      c.requires.0.few_items,
+      c.args.table.now.sound.few_items,
       c.row_first-first.ensures,
       c.row_count-n.ensures,
       c.count_marked.ensures.1,
@@ -421,23 +415,22 @@ write_sequence-overflow_add-to t c =
 
 pub write_sequence-write_members-requires : goal.write_sequence-write_members-requires
 write_sequence-write_members-requires t c =
-    let sound = c.requires.0.row c.args.row c.requires.1 in
-    let row = sequence_row _ _ _ sound c.requires.7 in (
+    let sound = c.args.table.now.sound.row c.args.row c.requires.0 in
+    let row = sequence_row _ _ _ sound c.requires.6 in (
       omega arith,
       (
-        c.requires.0,
-        omega (arith, c.requires.1),
-        Sequences.listed_members _ _ _ _ _ row c.requires.0.few_items
+        omega (arith, c.requires.0),
+        Sequences.listed_members _ _ _ _ _ row c.args.table.now.sound.few_items
             c.row_first-first.ensures c.row_count-n.ensures,
-        c.requires.2,
-        omega (arith, c.requires.3),
+        c.requires.1,
+        omega (arith, c.requires.2),
+        c.requires.3,
         c.requires.4,
-        c.requires.5,
         omega (
           arith,
-          c.requires.6,
+          c.requires.5,
           row.range,
-          c.requires.0.few_items,
+          c.args.table.now.sound.few_items,
           c.row_first-first.ensures,
           c.row_count-n.ensures,
           c.count_marked.ensures.1,
@@ -449,14 +442,14 @@ write_sequence-write_members-requires t c =
 
 pub write_sequence-returns : goal.write_sequence-returns
 write_sequence-returns t c =
-    let sound = c.requires.0.row c.args.row c.requires.1 in
-    let row = sequence_row _ _ _ sound c.requires.7 in
+    let sound = c.args.table.now.sound.row c.args.row c.requires.0 in
+    let row = sequence_row _ _ _ sound c.requires.6 in
     Sequences.components_go _ _ c.args.nodes.now c.args.contents.now _ _ c.args.used _
-    sound c.requires.7 _ c.row_count-n.ensures c.if-number-n.false _ _
+    sound c.requires.6 _ c.row_count-n.ensures c.if-number-n.false _ _
     c.row_first-first.ensures c.count_marked.ensures.0 _ _ c.put_zeros.ensures (omega (
       arith,
       row.range,
-      c.requires.0.few_items,
+      c.args.table.now.sound.few_items,
       c.row_first-first.ensures,
       c.row_count-n.ensures,
       c.count_marked.ensures.1,
@@ -465,26 +458,25 @@ write_sequence-returns t c =
 
 pub write_sequence_of-component_row-inner-requires : goal.write_sequence_of-component_row-inner-requires
 write_sequence_of-component_row-inner-requires t c =
-    let sound = c.requires.0.row c.args.row c.requires.1 in
-    let row = sequence_of_row _ _ _ sound c.requires.7 in
+    let sound = c.args.table.now.sound.row c.args.row c.requires.0 in
+    let row = sequence_of_row _ _ _ sound c.requires.6 in
     omega (arith, row.range, row.one, c.row_first.ensures)
 
 pub write_sequence_of-write_members-requires : goal.write_sequence_of-write_members-requires
 write_sequence_of-write_members-requires t c =
-    let sound = c.requires.0.row c.args.row c.requires.1 in
-    let row = sequence_of_row _ _ _ sound c.requires.7 in
+    let sound = c.args.table.now.sound.row c.args.row c.requires.0 in
+    let row = sequence_of_row _ _ _ sound c.requires.6 in
     let lt : c.component_row-inner.result < c.args.row = rw (c.component_row-inner.ensures, c.row_first.ensures)
     row.lower in (
       omega arith,
       (
-        c.requires.0,
-        omega (arith, c.requires.1),
+        omega (arith, c.requires.0),
         members_alone lt,
-        c.requires.2,
-        omega (arith, c.requires.3),
+        c.requires.1,
+        omega (arith, c.requires.2),
+        c.requires.3,
         c.requires.4,
-        c.requires.5,
-        omega (arith, c.requires.6, c.put_quantity-p.ensures.2),
+        omega (arith, c.requires.5, c.put_quantity-p.ensures.2),
         Copies.no_preamble _ _ _ _ _,
         Copies.no_zeros _ _ _ _ _ _,
       ),
@@ -492,8 +484,8 @@ write_sequence_of-write_members-requires t c =
 
 pub write_sequence_of-returns : goal.write_sequence_of-returns
 write_sequence_of-returns t c =
-    let sound = c.requires.0.row c.args.row c.requires.1 in
+    let sound = c.args.table.now.sound.row c.args.row c.requires.0 in
     Elements.elements_go _ _ c.args.nodes.now c.args.contents.now _ _ c.args.used _ sound
-    c.requires.7 _ _ c.row_first.ensures c.component_row-inner.ensures _ _
+    c.requires.6 _ _ c.row_first.ensures c.component_row-inner.ensures _ _
     c.put_quantity-p.ensures.0 c.put_quantity-p.ensures.1 c.put_quantity-p.ensures.2
     c.write_members.ensures

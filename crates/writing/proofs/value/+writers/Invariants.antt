@@ -30,5 +30,5 @@ abbrev pub invariant-write_members-loop-i : goal.invariant-write_members-loop-i
 invariant-write_members-loop-i l = (length l.out ≡ length l.initial.out)
     × ((l.pen.at * node_width ≤ length l.nodes) × (l.pen.used ≤ length l.contents)
     × (l.pen.to + (l.at * node_octets + l.used) ≤ l.to + (l.pen.at * node_octets + l.pen.used)) × (l.pre ≤ l.pen.to)
-    × (l.b ≤ l.i) × (l.b + marks_left l.rows l.items l.inner l.listed l.first l.n l.i ≡ marks_left l.rows l.items l.inner l.listed l.first l.n 0)
-    × MembersLeft l.rows l.items l.nodes l.contents l.initial.out l.inner l.listed l.pre l.first l.n l.initial.pen.at l.initial.pen.used l.i l.b l.pen.at l.pen.used l.pen.to l.out)
+    × (l.b ≤ l.i) × (l.b + marks_left l.table.rows.now l.table.items.now l.inner l.listed l.first l.n l.i ≡ marks_left l.table.rows.now l.table.items.now l.inner l.listed l.first l.n 0)
+    × MembersLeft l.table.rows.now l.table.items.now l.nodes l.contents l.initial.out l.inner l.listed l.pre l.first l.n l.initial.pen.at l.initial.pen.used l.i l.b l.pen.at l.pen.used l.pen.to l.out)

@@ -7,14 +7,13 @@ use Rattle.writing.proofs.value.write_value.Goals as goal
 
 pub write_members-requires : goal.write_members-requires
 write_members-requires c = (
-  c.requires.0,
-  omega (arith, c.requires.1),
+  omega (arith, c.requires.0),
   members_alone (omega arith),
+  c.requires.1,
   c.requires.2,
   c.requires.3,
   c.requires.4,
   c.requires.5,
-  c.requires.6,
   Copies.no_preamble _ _ _ _ _,
   Copies.no_zeros _ _ _ _ _ _,
 )
