@@ -156,11 +156,3 @@ module _ (rows items : List ℕ) (row : ℕ) (msg path ws cs out : List ℕ) whe
                   le-leb (length (encode t new)) octet_limit (rw octets_is short),
                   le-leb (length (encode t new)) (length out) (rw octets_is room),
                 ) (record { reply = rw octets_is refl; stored = laid p })
-
--- ---- the reply
-module _ {w : Written} {out : List ℕ} {q : Reply} where
-  pub reply_refuses : {x : Refusal} → Puts w out (Err x) → q ≡ refused_reply x → Writes w out q
-  reply_refuses p e = record { reply = e ∙ ap as_reply p.reply; stored = p.stored }
-
-  pub reply_done : {n : ℕ} → Puts w out (Ok n) → q ≡ as_reply (done_reply 0 n) → Writes w out q
-  reply_done p e = record { reply = e ∙ ap as_reply p.reply; stored = p.stored }
