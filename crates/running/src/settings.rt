@@ -21,6 +21,10 @@ pub fn run_setting<W: Write>(
     let msg = case.octets(&mut msg);
     let path = case.words(&mut path);
     let fallback = case.octets(&mut fallback);
-    write!(to, "{}", FlatSetting::from(read_setting(rows, items, row, msg, path)))?;
+    write!(
+        to,
+        "{}",
+        FlatSetting::from(read_setting(rows, items, row, msg, path))
+    )?;
     print_octets(to, show_text(rows, items, row, msg, path, fallback))
 }
