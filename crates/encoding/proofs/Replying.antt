@@ -15,18 +15,16 @@ use Rattle.x696.specs.Value.{Val, node_width}
 use Rattle.x696.specs.Types.{Ty}
 use Rattle.x696.specs.Encode.{encode, own_octets}
 use Rattle.x696.specs.Walk.{Listed, list_at, walk, walk_component}
-use Rattle.x696.specs.Reply.{Answer, refusal, done, refusal_reply, done_reply, then, answer, unless, in_part}
-use Rattle.x696.specs.Table.{row_width, type_of}
-use Rattle.x696.specs.TableFault.{sound, table_fault}
+use Rattle.x696.specs.Reply.{Answer, done, done_reply, then, answer, unless, in_part}
+use Rattle.x696.specs.Table.{type_of}
 use Rattle.x696.specs.Operations.{node_limit, octet_limit, asked, walk_list, result_fits, room_for, over, octets_for, measure, written, Written}
 use Rattle.x696.specs.Operations.{encode_list}
 use Rattle.table.specs.Replies.{as_reply, as_answer, refused_reply}
 use Rattle.table.specs.declared.reply.Reply.{Reply}
 use Rattle.octets.proofs.Answered.{next_refused, next_got}
-use Rattle.octets.specs.Part.{part_of, refused as refusing}
+use Rattle.octets.specs.Part.{refused as refusing}
 use Rattle.octets.specs.declared.faults.Cause.{Cause}
 use Rattle.octets.specs.declared.faults.Cause.TheVariants.{Long, Room}
-use Rattle.octets.specs.declared.faults.Part.{Part}
 use Rattle.octets.specs.declared.faults.Part.TheVariants.{List as ListPart, Result as ResultPart}
 use Rattle.octets.specs.declared.faults.Refusal.{Refusal}
 use Rattle.octets.specs.declared.faults.Fault.{Fault}
