@@ -53,13 +53,13 @@ module _ (rows items : List ℕ) (row : ℕ) (msg path ws cs out : List ℕ) whe
     t = type_of rows items row
 
     abbrev u : Ty
-    u = type_of rows items s.row
+    u = type_of rows items s.component.row
 
-    pub list_stops : {x : Refusal} → Refuses (in_part 2 (walk_list s.mark u ws cs)) x → Puts E out (Err x)
+    pub list_stops : {x : Refusal} → Refuses (in_part 2 (walk_list s.component.mark u ws cs)) x → Puts E out (Err x)
     unfolding edit edited_octets written then answer
     list_stops r = rw (h.is, r.is) (record { reply = refl; stored = refl })
 
-    module _ {n : ℕ} (a : Accepted s.mark s.given u ws cs n) (words : Below 64 ws) (octets : Below 8 cs)
+    module _ {n : ℕ} (a : Accepted s.component.mark s.component.given u ws cs n) (words : Below 64 ws) (octets : Below 8 cs)
         (table : Below 64 items) where
       abbrev y : Val
       y = a.what
@@ -69,8 +69,8 @@ module _ (rows items : List ℕ) (row : ℕ) (msg path ws cs out : List ℕ) whe
 
       listed : size y * 2 ≡ length ws
       listed =
-          let formed = well_formed rows items table ((sound_table rows items).1 h.sound) s.row h.spot.inside in
-          let l = walk_list_sound s.mark s.given u ws cs y a.end formed words octets a.whole in
+          let formed = well_formed rows items table ((sound_table rows items).1 h.sound) s.component.row h.spot.inside in
+          let l = walk_list_sound s.component.mark s.component.given u ws cs y a.end formed words octets a.whole in
           sym (ap length l.1 ∙ nodes_length y)
 
       count_is : size new ≡ w.count - s.nodes + length ws / 2

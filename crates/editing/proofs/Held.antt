@@ -44,7 +44,7 @@ some_node (node k n os vs) = omega arith
 module _ (t : Ty) (v : Val) (p msg : List ℕ) (whole : msg ≡ encode t v) (fits : Fits t v) (y : Val) (s : Spot)
     (start : s.start ≡ length (octets_before t v p)) (pre : s.pre ≡ preamble_start t v p)
     (bit : s.bit ≡ bit_number t v p) where
-  pub spliced_is : (m d : ℕ) (u : Ty) (x : Val) → find t v p ≡ found m d u x → s.mark ≡ m
+  pub spliced_is : (m d : ℕ) (u : Ty) (x : Val) → find t v p ≡ found m d u x → s.component.mark ≡ m
       → s.end ≡ s.start + length (own_octets m d u x)
       → spliced_octets s (own_octets m d u y) msg (not (same y (missing m d u))) ≡ encode t (replace p y v)
   unfolding spliced_octets presence_bits
@@ -69,19 +69,19 @@ module _ (rows items : List ℕ) (row : ℕ) (msg path : List ℕ) {w : Way}
   t = type_of rows items row
 
   abbrev u : Ty
-  u = type_of rows items s.row
+  u = type_of rows items s.component.row
 
   abbrev x : Val
   x = h.spot.value
 
-  pub finds : find t h.whole path ≡ found s.mark s.given u x
+  pub finds : find t h.whole path ≡ found s.component.mark s.component.given u x
   unfolding find
   finds = h.spot.finds
 
-  pub given_sound : 1 < s.mark → default_sound u s.given ≡ true
+  pub given_sound : 1 < s.component.mark → default_sound u s.component.given ≡ true
   given_sound l = h.spot.fitting.1 (omega (arith, h.spot.fitting.0))
 
-  pub marked_inside : (s.mark ≡ 0 → ⊥) → s.pre < 2 ^ 48
+  pub marked_inside : (s.component.mark ≡ 0 → ⊥) → s.pre < 2 ^ 48
   marked_inside m =
       let start : s.start ≡ length (octets_before t h.whole path) = omega (arith, h.spot.start) in
       let pre = h.spot.preamble ∙ start_is t h.whole path in

@@ -100,14 +100,14 @@ unfolding over
 over_bit xs out pre b x h = rw (set_bit_front xs (drop (length xs) out) pre b x h, set_bit_length xs pre b x) refl
 
 module _ (rows items : List ℕ) (s : Spot) (ws cs : List ℕ) (n : ℕ) (msg out : List ℕ)
-    (sound : row_sound rows items s.row ≡ true)
-    (given : 1 < s.mark → default_sound (type_of rows items s.row) s.given ≡ true)
+    (sound : row_sound rows items s.component.row ≡ true)
+    (given : 1 < s.component.mark → default_sound (type_of rows items s.component.row) s.component.given ≡ true)
     (reach : s.start ≤ length msg) (ends : s.end ≤ length msg) where
   abbrev t : Ty
-  t = type_of rows items s.row
+  t = type_of rows items s.component.row
 
   abbrev own : Val → List ℕ
-  own y = own_octets s.mark s.given t y
+  own y = own_octets s.component.mark s.component.given t y
 
   laid : (y : Val) {l₁ l₂ l₃ : List ℕ} → l₁ ≡ sets out 0 (take s.start (drop 0 msg))
       → l₂ ≡ sets l₁ s.start (own y)
@@ -122,28 +122,28 @@ module _ (rows items : List ℕ) (s : Spot) (ws cs : List ℕ) (n : ℕ) (msg ou
       (omega arith)
 
   marked_over : {l₃ l₄ : List ℕ} {y : Val} {r : Listed} → l₃ ≡ over (around s (own y) msg) out
-      → l₄ ≡ cond (eqb s.mark 0) l₃
-      (set_bit l₃ s.pre s.bit (not (missing_at ws 0 (row_kind rows s.row) s.mark s.given)))
-      → walk_component s.mark t (list_at ws cs 0) ≡ got y r
-      → ((s.mark ≡ 0 → ⊥) → s.pre + s.bit / 8 < s.start)
-      → l₄ ≡ over (spliced_octets s (own y) msg (not (same y (missing s.mark s.given t)))) out
+      → l₄ ≡ cond (eqb s.component.mark 0) l₃
+      (set_bit l₃ s.pre s.bit (not (missing_at ws 0 (row_kind rows s.component.row) s.component.mark s.component.given)))
+      → walk_component s.component.mark t (list_at ws cs 0) ≡ got y r
+      → ((s.component.mark ≡ 0 → ⊥) → s.pre + s.bit / 8 < s.start)
+      → l₄ ≡ over (spliced_octets s (own y) msg (not (same y (missing s.component.mark s.component.given t)))) out
   unfolding spliced_octets
   marked_over {y = y} e₃ e₄ walks inside =
-      cases (eqb s.mark 0)
+      cases (eqb s.component.mark 0)
       (λ q. e₄ ∙ rw q e₃)
       (λ q.
-      let marked = eqb-false s.mark 0 q in
-      let here = carried_as rows items s.row s.mark s.given ws cs sound marked given walks in
+      let marked = eqb-false s.component.mark 0 q in
+      let here = carried_as rows items s.component.row s.component.mark s.component.given ws cs sound marked given walks in
       let front : length (take s.start msg) ≡ s.start = length-take-le s.start msg reach in
       let within : s.pre + s.bit / 8 < length (around s (own y) msg) =
       omega (arith, inside marked, length-append (take s.start msg) (own y ++ drop s.end msg)) in
       e₄ ∙ rw (q, here, e₃) (over_bit (around s (own y) msg) out s.pre s.bit _ within))
 
   pub splice_done : {l₁ l₂ l₃ l₄ : List ℕ} (r : Result Pen Fault) → l₁ ≡ sets out 0 (take s.start (drop 0 msg))
-      → Put ws cs (walk_component s.mark t (list_at ws cs 0)) own 0 0 s.start l₁ l₂ r
+      → Put ws cs (walk_component s.component.mark t (list_at ws cs 0)) own 0 0 s.start l₁ l₂ r
       → l₃ ≡ sets l₂ (s.start + n) (take (length msg - s.end) (drop s.end msg))
-      → l₄ ≡ cond (eqb s.mark 0) l₃
-      (set_bit l₃ s.pre s.bit (not (missing_at ws 0 (row_kind rows s.row) s.mark s.given)))
+      → l₄ ≡ cond (eqb s.component.mark 0) l₃
+      (set_bit l₃ s.pre s.bit (not (missing_at ws 0 (row_kind rows s.component.row) s.component.mark s.component.given)))
       → Spliced t s ws cs n msg out l₄
   splice_done (Err f) e₁ w e₃ e₄ y r walks en room inside =
       absurd (refused_never (sym (w.stopped f refl) ∙ walks))

@@ -15,14 +15,14 @@ abbrev pub around : Spot → (own octets : List ℕ) → List ℕ
 around s own msg = take s.start msg ++ (own ++ drop s.end msg)
 
 unfoldable pub spliced_octets : Spot → (own octets : List ℕ) → (present : Bool) → List ℕ
-spliced_octets s own msg x = cond (eqb s.mark 0) (around s own msg) (set_bit (around s own msg) s.pre s.bit x)
+spliced_octets s own msg x = cond (eqb s.component.mark 0) (around s own msg) (set_bit (around s own msg) s.pre s.bit x)
 
 -- the buffer out became out', for the value that the list gives and whose own octets are n, if there is room
 abbrev pub Spliced : Ty → Spot → (ws cs : List ℕ) → (n : ℕ) → (msg out out' : List ℕ) → Type 0
 Spliced t s ws cs n msg out out' =
-    (y : Val) (r : Listed) → walk_component s.mark t (list_at ws cs 0) ≡ got y r
-    → n ≡ length (own_octets s.mark s.given t y)
+    (y : Val) (r : Listed) → walk_component s.component.mark t (list_at ws cs 0) ≡ got y r
+    → n ≡ length (own_octets s.component.mark s.component.given t y)
     → s.start + (n + (length msg - s.end)) ≤ length out
-    → ((s.mark ≡ 0 → ⊥) → s.pre + s.bit / 8 < s.start)
-    → out' ≡ over (spliced_octets s (own_octets s.mark s.given t y) msg (not (same y (missing s.mark
-    s.given t)))) out
+    → ((s.component.mark ≡ 0 → ⊥) → s.pre + s.bit / 8 < s.start)
+    → out' ≡ over (spliced_octets s (own_octets s.component.mark s.component.given t y) msg (not (same y (missing s.component.mark
+    s.component.given t)))) out

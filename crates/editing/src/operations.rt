@@ -27,7 +27,7 @@ fn put_edited(
     let w = find_in(rows, items, row, msg, path)?;
     let s = w.spot;
     let table = Table { rows, items };
-    let n = survey_list(&table, s.row, s.mark, s.given, nodes, contents)?;
+    let n = survey_list(&table, s.component, nodes, contents)?;
     let many = 4096 < w.count - s.nodes + nodes.len() / 2;
     if many {
         return Err(Cause::Nodes.at(0).in_part(Part::Result));

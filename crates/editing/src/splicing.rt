@@ -15,13 +15,13 @@ use writing::value::write_component;
 
 // A component that equals its missing value is not carried: an edit back to the DEFAULT clears the bit (31.9).
 fn put_mark(table: &Table, s: Spot, nodes: &[u64], out: &mut [u8])
-    requires { (s.row < length table.now.rows.now / row_width) × ((s.mark ≡ 0 → ⊥) → s.pre < 2 ^ 48) × (s.bit < 1024) }
-    ensures { out.new ≡ cond (eqb s.mark 0) out.old (set_bit out.old s.pre s.bit (not (missing_at nodes.now 0 (row_kind table.now.rows.now s.row) s.mark s.given))) }
+    requires { (s.component.row < length table.now.rows.now / row_width) × ((s.component.mark ≡ 0 → ⊥) → s.pre < 2 ^ 48) × (s.bit < 1024) }
+    ensures { out.new ≡ cond (eqb s.component.mark 0) out.old (set_bit out.old s.pre s.bit (not (missing_at nodes.now 0 (row_kind table.now.rows.now s.component.row) s.component.mark s.component.given))) }
 {
-    if s.mark == 0 {
+    if s.component.mark == 0 {
         return;
     }
-    let missing = is_missing(nodes, 0, table.row_kind(s.row), s.mark, s.given);
+    let missing = is_missing(nodes, 0, table.row_kind(s.component.row), s.component.mark, s.component.given);
     put_presence(out, s.pre, s.bit, !missing);
 }
 
@@ -35,14 +35,14 @@ pub fn splice(
     msg: &[u8],
     out: &mut [u8],
 )
-    requires { (s.row < length table.now.rows.now / row_width) × ((1 < s.mark) → default_sound (type_of table.now.rows.now table.now.items.now s.row) s.given ≡ true) × (length nodes.now ≤ 8192) × (length contents.now ≤ 65535) × (length msg.now ≤ 65535) × (s.start ≤ length msg.now) × (s.end ≤ length msg.now) × (n ≤ 65535) × ((s.mark ≡ 0 → ⊥) → s.pre < 2 ^ 48) × (s.bit < 1024) }
-    ensures { Spliced (type_of table.now.rows.now table.now.items.now s.row) s nodes.now contents.now n msg.now out.old out.new }
+    requires { (s.component.row < length table.now.rows.now / row_width) × ((1 < s.component.mark) → default_sound (type_of table.now.rows.now table.now.items.now s.component.row) s.component.given ≡ true) × (length nodes.now ≤ 8192) × (length contents.now ≤ 65535) × (length msg.now ≤ 65535) × (s.start ≤ length msg.now) × (s.end ≤ length msg.now) × (n ≤ 65535) × ((s.component.mark ≡ 0 → ⊥) → s.pre < 2 ^ 48) × (s.bit < 1024) }
+    ensures { Spliced (type_of table.now.rows.now table.now.items.now s.component.row) s nodes.now contents.now n msg.now out.old out.new }
 {
     let start = s.start;
     let end = s.end;
     copy(msg, 0, start, out, 0);
     let _new = write_component(
-        table, s.row, s.mark, s.given, nodes, contents, 0, 0, start, out,
+        table, s.component, nodes, contents, 0, 0, start, out,
     );
     copy(msg, end, msg.len() - end, out, start + n);
     put_mark(table, s, nodes, out);

@@ -4,6 +4,7 @@ ghost use Rattle.x696.specs.Table.{row_width, type_of};
 ghost use Rattle.x696.specs.TableCheck.{default_sound};
 ghost use Rattle.encoding.specs.Measures.{ListAnswer};
 
+use table::component::ComponentType;
 use octets::faults::{Cause, Part, Refusal};
 use table::sound::Table;
 use writing::value::write_component;
@@ -11,14 +12,12 @@ use writing::value::write_component;
 // A list for a component with its mark and default: an odd word 11, 10, 4, the walk, left over nodes 11, left over contents 11.
 pub fn survey_list(
     table: &Table,
-    row: usize,
-    mark: u64,
-    default: u64,
+    component: ComponentType,
     nodes: &[u64],
     contents: &[u8],
 ) -> Result<usize, Refusal>
-    requires { (row < length table.now.rows.now / row_width) × ((1 < mark) → default_sound (type_of table.now.rows.now table.now.items.now row) «default» ≡ true) }
-    ensures { ListAnswer mark «default» (type_of table.now.rows.now table.now.items.now row) nodes.now contents.now result }
+    requires { (component.row < length table.now.rows.now / row_width) × ((1 < component.mark) → default_sound (type_of table.now.rows.now table.now.items.now component.row) component.given ≡ true) }
+    ensures { ListAnswer component.mark component.given (type_of table.now.rows.now table.now.items.now component.row) nodes.now contents.now result }
 {
     let count = nodes.len() / 2;
     if nodes.len() % 2 != 0 {
@@ -34,9 +33,7 @@ pub fn survey_list(
     let mut out = [0u8; 1];
     match write_component(
         table,
-        row,
-        mark,
-        default,
+        component,
         nodes,
         contents,
         0,

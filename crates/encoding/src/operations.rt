@@ -9,6 +9,7 @@ ghost use Rattle.encoding.specs.Measures.{OctetsIn, OctetsAnswer, Puts, Writes};
 use crate::lists::survey_list;
 use decoding::operations::asked_table;
 use octets::faults::{Cause, Part, Refusal};
+use table::component::ComponentType;
 use table::reply::{Reply, done};
 use table::sound::Table;
 use writing::value::write_value;
@@ -18,7 +19,12 @@ fn octets_in(table: &Table, row: usize, nodes: &[u64], contents: &[u8]) -> Resul
     requires { row < length table.now.rows.now / row_width }
     ensures { OctetsIn (type_of table.now.rows.now table.now.items.now row) nodes.now contents.now result }
 {
-    let n = survey_list(table, row, 0, 0, nodes, contents)?;
+    let whole = ComponentType {
+        row,
+        mark: 0,
+        given: 0,
+    };
+    let n = survey_list(table, whole, nodes, contents)?;
     if 65535 < n {
         return Err(Cause::Long.at(0).in_part(Part::Result));
     }

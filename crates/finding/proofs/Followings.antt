@@ -90,7 +90,7 @@ module _ (rows items msg : List ℕ) (m d row pre b at count : ℕ) (path : List
 
   module _ (o : Opening) (l : Leads rows items msg row at i (followed rows items msg m d row pre b at count) o) where
     lost_step : (x : Val) (bs : Vals) {k : ℕ}
-        → Loses rows items msg o.mark o.given o.row at o.bit o.at o.count x (drop (step + 1) path) (step + 1) k
+        → Loses rows items msg o.component.mark o.component.given o.component.row at o.bit o.at o.count x (drop (step + 1) path) (step + 1) k
         → Loses rows items msg m d row pre b at count (l.wrap x bs) (i ∷ drop (step + 1) path) step k
     unfolding onward
     lost_step x bs h = record {
@@ -100,7 +100,7 @@ module _ (rows items msg : List ℕ) (m d row pre b at count : ℕ) (path : List
     }
 
     spot_step : (x : Val) (bs : Vals) {s : Spot}
-        → Spotted rows items o.mark o.given (type_of rows items o.row) at o.bit o.at x (drop
+        → Spotted rows items o.component.mark o.component.given (type_of rows items o.component.row) at o.bit o.at x (drop
         (step + 1) path) s
         → Spotted rows items m d t pre b at (l.wrap x bs) (i ∷ drop (step + 1) path) s
     unfolding onward
@@ -127,7 +127,7 @@ module _ (rows items msg : List ℕ) (m d row pre b at count : ℕ) (path : List
 
     -- the child was followed, and what stands behind it is passed
     pub child_goes : {w : Followed} {c : Cursor}
-        (h : Goes rows items msg o.mark o.given o.row at o.bit o.at o.count (drop (step + 1) path) (step + 1) w)
+        (h : Goes rows items msg o.component.mark o.component.given o.component.row at o.bit o.at o.count (drop (step + 1) path) (step + 1) w)
         → Stood none msg (behind_of rows items msg row at o (message (drop w.at msg) w.count)) c
         → Goes rows items msg m d row pre b at count (drop step path) step
         (record { at = c.at; count = c.count; leads = w.leads })

@@ -91,8 +91,8 @@ module _ (rows items msg : List ℕ) (row at count : ℕ) (inside : at ≤ lengt
     own_tag : tag_at among j ≡ tag m.class (t.went m e).whole
     own_tag = tag_of (t.went m e).whole (t.went m e).number
 
-    module _ (below : Below 8 msg) (o : Opening) (er : o.row ≡ alternative_row items (g + j)) (em : o.mark ≡ 0)
-        (ed : o.given ≡ 0) (eo : o.bit ≡ 0) (ea : o.at ≡ m.next) (ek : o.count ≡ count + 1) (ex : o.left
+    module _ (below : Below 8 msg) (o : Opening) (er : o.component.row ≡ alternative_row items (g + j)) (em : o.component.mark ≡ 0)
+        (ed : o.component.given ≡ 0) (eo : o.bit ≡ 0) (ea : o.at ≡ m.next) (ek : o.count ≡ count + 1) (ex : o.left
         ≡ 0) where
       abbrev C : Outcome Message Val
       C = read node_limit (type_of rows items (alternative_row items (g + j))) (length msg)
@@ -101,7 +101,7 @@ module _ (rows items msg : List ℕ) (row at count : ℕ) (inside : at ≤ lengt
       first : D ≡ next C λ v s. got (node 12 j [] (only v)) s
       first = chosen rows items msg row at count inside sound is t g n j m e eg en ej h refl
 
-      child_is : read_component node_limit o.mark o.given (type_of rows items o.row) (bit_at msg at o.bit)
+      child_is : read_component node_limit o.component.mark o.component.given (type_of rows items o.component.row) (bit_at msg at o.bit)
           (length msg) (message (drop o.at msg) o.count) ≡ C
       unfolding read_component component_by
       child_is = rw (er, em, ea, ek) refl

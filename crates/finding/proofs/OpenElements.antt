@@ -91,9 +91,9 @@ module _ (rows items msg : List ℕ) (row at count : ℕ) (inside : at ≤ lengt
     pub before_stops : {x p : ℕ} → times F i S ≡ refused x p → D ≡ refused x p
     before_stops e = members_first ∙ next_refused _ (elements_stop F i n S (omega arith) e)
 
-    module _ (below : Below 8 msg) {p : Cursor} (fore : Stood none msg (times F i S) p) (o : Opening) (er : o.row
+    module _ (below : Below 8 msg) {p : Cursor} (fore : Stood none msg (times F i S) p) (o : Opening) (er : o.component.row
         ≡ inner)
-        (em : o.mark ≡ 0) (ed : o.given ≡ 0) (eo : o.bit ≡ 0) (ea : o.at ≡ p.at) (ek : o.count ≡ p.count)
+        (em : o.component.mark ≡ 0) (ed : o.component.given ≡ 0) (eo : o.bit ≡ 0) (ea : o.at ≡ p.at) (ek : o.count ≡ p.count)
         (ex : o.left ≡ n - (i + 1)) where
       abbrev us : Vals
       us = fore.what
@@ -104,7 +104,7 @@ module _ (rows items msg : List ℕ) (row at count : ℕ) (inside : at ≤ lengt
       abbrev B : Message → Outcome Message Vals
       B s = times F (n - (i + 1)) s
 
-      child_is : read_component node_limit o.mark o.given (type_of rows items o.row) (bit_at msg at o.bit)
+      child_is : read_component node_limit o.component.mark o.component.given (type_of rows items o.component.row) (bit_at msg at o.bit)
           (length msg) (message (drop o.at msg) o.count) ≡ C
       unfolding read_component component_by
       child_is = rw (er, em, ea, ek) refl

@@ -109,8 +109,8 @@ module _ (rows items msg : List ℕ) (row at count : ℕ) (inside : at ≤ lengt
           members_first ∙ next_refused _ (components_stop rows items msg at i n 0 g S (omega arith) e)
 
       module _ {p : Cursor} (fore : Stood none msg (components_at rows items msg at 0 g i S) p) (o : Opening)
-          (er : o.row ≡ component_row items (g + i)) (em : o.mark ≡ component_mark items (g + i))
-          (ed : o.given ≡ component_default items (g + i)) (eo : o.bit ≡ b) (ea : o.at ≡ p.at)
+          (er : o.component.row ≡ component_row items (g + i)) (em : o.component.mark ≡ component_mark items (g + i))
+          (ed : o.component.given ≡ component_default items (g + i)) (eo : o.bit ≡ b) (ea : o.at ≡ p.at)
           (ek : o.count ≡ p.count) (ef : o.after ≡ g + (i + 1))
           (el : o.later ≡ b + presence_count (component_mark items (g + i))) (ex : o.left ≡ n - (i + 1))
           (few : b ≤ i) (some : length items / item_width ≤ 1024) where
@@ -126,7 +126,7 @@ module _ (rows items msg : List ℕ) (row at count : ℕ) (inside : at ≤ lengt
         B s = components_at rows items msg at (b + presence_count (component_mark items (g + i))) (g + (i + 1)) (n -
             (i + 1)) s
 
-        child_is : read_component node_limit o.mark o.given (type_of rows items o.row) (bit_at msg at o.bit)
+        child_is : read_component node_limit o.component.mark o.component.given (type_of rows items o.component.row) (bit_at msg at o.bit)
             (length msg) (message (drop o.at msg) o.count) ≡ C
         child_is = rw (er, em, ed, eo, ea, ek) refl
 

@@ -177,7 +177,7 @@ module _ (rows items msg : List ℕ) (row at : ℕ) (o : Opening) where
   components_behind s e w = rw e w
 
   pub elements_behind : (s : Message) {r : Result Cursor Fault} → (row_kind rows row ≡ 10 → ⊥)
-      → Passed none msg (times (λ s. read node_limit (type_of rows items o.row) (length msg) s) o.left s) r
+      → Passed none msg (times (λ s. read node_limit (type_of rows items o.component.row) (length msg) s) o.left s) r
       → Passed none msg (behind_of rows items msg row at o s) r
   unfolding behind_of choose
   elements_behind s e w = rw (ne_eqb (row_kind rows row) 10 e) w

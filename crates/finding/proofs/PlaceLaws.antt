@@ -130,7 +130,7 @@ module _ (rows items msg path : List ℕ) (row : ℕ) (short : length msg ≤ oc
       let all : msg ≡ encode t h.what = a.from ∙ rw (none, append-nil (encode t h.what)) refl in
       let (after, stands) = own_stands t h.what path s.finds in
       let before = octets_before t h.what path in
-      let own = own_octets spot.mark spot.given (type_of rows items spot.row) s.value in
+      let own = own_octets spot.component.mark spot.component.given (type_of rows items spot.component.row) s.value in
       record {
         sound = table;
         known = known;

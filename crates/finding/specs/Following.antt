@@ -37,17 +37,17 @@ bit_from b t v (i ∷ p) = bit_number t v (i ∷ p)
 pub record Spotted (rows items : List ℕ) (m d : ℕ) (t : Ty) (pre b at : ℕ) (v : Val) (p : List ℕ)
     (s : Spot) : Type 0 where
   pub value : Val
-  pub finds : find_from m d t v p ≡ found s.mark s.given (type_of rows items s.row) value
+  pub finds : find_from m d t v p ≡ found s.component.mark s.component.given (type_of rows items s.component.row) value
   pub start : s.start ≡ at + length (octets_before t v p)
-  pub end : s.end ≡ s.start + length (own_octets s.mark s.given (type_of rows items s.row) value)
+  pub end : s.end ≡ s.start + length (own_octets s.component.mark s.component.given (type_of rows items s.component.row) value)
   pub nodes : s.nodes ≡ size value
   pub number : s.number ≡ number_of value
   pub absent : s.absent ≡ eqb (kind_in value) 0
   pub preamble : s.pre ≡ preamble_from pre at t v p
   pub bit : s.bit ≡ bit_from b t v p
   pub few : s.bit < 1024
-  pub inside : s.row < length rows / row_width
-  pub fitting : Fitting (type_of rows items s.row) s.mark s.given
+  pub inside : s.component.row < length rows / row_width
+  pub fitting : Fitting (type_of rows items s.component.row) s.component.mark s.component.given
 
 module _ (rows items msg : List ℕ) (m d row pre b at count : ℕ) where
   abbrev pub followed : Outcome Message Val

@@ -20,7 +20,7 @@ use Rattle.octets.specs.Cause.{code_of}
 module _ (rows items msg : List ℕ) (row at : ℕ) (o : Opening) where
   -- the child, in the group at octet `at`
   abbrev pub child_of : Outcome Message Val
-  child_of = read_component node_limit o.mark o.given (type_of rows items o.row) (bit_at msg at o.bit)
+  child_of = read_component node_limit o.component.mark o.component.given (type_of rows items o.component.row) (bit_at msg at o.bit)
       (length msg)
       (message (drop o.at msg) o.count)
 
@@ -29,7 +29,7 @@ module _ (rows items msg : List ℕ) (row at : ℕ) (o : Opening) where
   behind_of s =
       choose (eqb (row_kind rows row) 10)
       (λ _. components_at rows items msg at o.later o.after o.left s)
-      (λ _. times (λ s. read node_limit (type_of rows items o.row) (length msg) s) o.left s)
+      (λ _. times (λ s. read node_limit (type_of rows items o.component.row) (length msg) s) o.left s)
 
 abbrev pub BehindFits : (rows items : List ℕ) → (row : ℕ) → Opening → Type 0
 BehindFits rows items row o =
@@ -47,13 +47,13 @@ pub record Leads (rows items msg : List ℕ) (row at i : ℕ) (O : Outcome Messa
   pub gets : (x : Val) (s : Message) (bs : Vals) (r : Message) → child_of rows items msg row at o ≡ got x s
       → behind_of rows items msg row at o s ≡ got bs r → O ≡ got (wrap x bs) r
   pub leads : (x : Val) (bs : Vals)
-      → child_at (type_of rows items row) (wrap x bs) i ≡ child o.mark o.given (type_of rows items o.row) x
+      → child_at (type_of rows items row) (wrap x bs) i ≡ child o.component.mark o.component.given (type_of rows items o.component.row) x
   pub before : (x : Val) (bs : Vals) → o.at ≡ at + length (child_before (type_of rows items row) (wrap x bs) i)
   pub bit : o.bit ≡ bits_before (type_of rows items row) i
   pub few : o.bit < 1024
-  pub lower : o.row < row
+  pub lower : o.component.row < row
   pub inside : o.at ≤ length msg
-  pub fitting : Fitting (type_of rows items o.row) o.mark o.given
+  pub fitting : Fitting (type_of rows items o.component.row) o.component.mark o.component.given
   pub behind : BehindFits rows items row o
 
 pub record Opens (rows items msg : List ℕ) (row at i : ℕ) (O : Outcome Message Val) (r : Result (Option Opening) Fault) : Type 0 where

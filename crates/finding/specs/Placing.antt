@@ -37,8 +37,8 @@ pub record Placed (rows items : List ℕ) (row : ℕ) (msg path : List ℕ) (a :
   pub is : a ≡ done (record {
     type = type_of rows items row;
     whole = whole;
-    mark = w.spot.mark;
-    its = type_of rows items w.spot.row;
+    mark = w.spot.component.mark;
+    its = type_of rows items w.spot.component.row;
     value = spot.value;
   })
 

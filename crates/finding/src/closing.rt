@@ -21,7 +21,7 @@ pub fn pass_behind(
     at: usize,
     count: usize,
 ) -> Result<Cursor, Fault>
-    requires { (row < length table.now.rows.now / row_width) × (at ≤ length msg.now) × (length msg.now ≤ 65535) × (pre ≤ length msg.now) × (o.row < row) × BehindFits table.now.rows.now table.now.items.now row o }
+    requires { (row < length table.now.rows.now / row_width) × (at ≤ length msg.now) × (length msg.now ≤ 65535) × (pre ≤ length msg.now) × (o.component.row < row) × BehindFits table.now.rows.now table.now.items.now row o }
     ensures { Passed none msg.now (behind_of table.now.rows.now table.now.items.now msg.now row pre o (message (drop at msg.now) count)) result }
 {
     if table.row_kind(row) == 10 {
@@ -37,5 +37,5 @@ pub fn pass_behind(
             count,
         );
     }
-    pass_elements(table, o.row, o.left, msg, at, count)
+    pass_elements(table, o.component.row, o.left, msg, at, count)
 }

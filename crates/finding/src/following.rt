@@ -13,6 +13,7 @@ use crate::passing::pass_component;
 use crate::spot::{Followed, Spot};
 use octets::faults::Fault;
 use octets::presence::is_present;
+use table::component::ComponentType;
 use table::sound::Table;
 
 fn is_absent(mark: u64, msg: &[u8], pre: usize, b: usize) -> bool
@@ -30,9 +31,7 @@ fn is_absent(mark: u64, msg: &[u8], pre: usize, b: usize) -> bool
 // The path ends here.
 fn follow_end(
     table: &Table,
-    row: usize,
-    mark: u64,
-    given: u64,
+    component: ComponentType,
     msg: &[u8],
     pre: usize,
     b: usize,
@@ -41,18 +40,16 @@ fn follow_end(
     path: &[u64],
     step: usize,
 ) -> Result<Followed, Fault>
-    requires { (row < length table.now.rows.now / row_width) × (at ≤ length msg.now) × (length msg.now ≤ 65535) × Fitting (type_of table.now.rows.now table.now.items.now row) mark given × (pre ≤ length msg.now) × (b < 1024) × (length path.now ≤ step) }
-    ensures { Follows table.now.rows.now table.now.items.now msg.now mark given row pre b at count path.now step result }
+    requires { (component.row < length table.now.rows.now / row_width) × (at ≤ length msg.now) × (length msg.now ≤ 65535) × Fitting (type_of table.now.rows.now table.now.items.now component.row) component.mark component.given × (pre ≤ length msg.now) × (b < 1024) × (length path.now ≤ step) }
+    ensures { Follows table.now.rows.now table.now.items.now msg.now component.mark component.given component.row pre b at count path.now step result }
 {
-    let absent = is_absent(mark, msg, pre, b);
-    let end = pass_component(table, row, mark, given, msg, pre, b, at, count)?;
+    let absent = is_absent(component.mark, msg, pre, b);
+    let end = pass_component(table, component, msg, pre, b, at, count)?;
     Ok(Followed {
         at: end.at,
         count: end.count,
         leads: Ok(Spot {
-            row,
-            mark,
-            given,
+            component,
             absent,
             start: at,
             end: end.at,
@@ -67,9 +64,7 @@ fn follow_end(
 // The path leads nowhere at this step.
 fn follow_nowhere(
     table: &Table,
-    row: usize,
-    mark: u64,
-    given: u64,
+    component: ComponentType,
     msg: &[u8],
     pre: usize,
     b: usize,
@@ -78,10 +73,10 @@ fn follow_nowhere(
     path: &[u64],
     step: usize,
 ) -> Result<Followed, Fault>
-    requires { (row < length table.now.rows.now / row_width) × (at ≤ length msg.now) × (length msg.now ≤ 65535) × Fitting (type_of table.now.rows.now table.now.items.now row) mark given × (pre ≤ length msg.now) × (b < 1024) × (step < length path.now) × Childless table.now.rows.now table.now.items.now msg.now mark given row pre b at count (get_or path.now step 0) }
-    ensures { Follows table.now.rows.now table.now.items.now msg.now mark given row pre b at count path.now step result }
+    requires { (component.row < length table.now.rows.now / row_width) × (at ≤ length msg.now) × (length msg.now ≤ 65535) × Fitting (type_of table.now.rows.now table.now.items.now component.row) component.mark component.given × (pre ≤ length msg.now) × (b < 1024) × (step < length path.now) × Childless table.now.rows.now table.now.items.now msg.now component.mark component.given component.row pre b at count (get_or path.now step 0) }
+    ensures { Follows table.now.rows.now table.now.items.now msg.now component.mark component.given component.row pre b at count path.now step result }
 {
-    let end = pass_component(table, row, mark, given, msg, pre, b, at, count)?;
+    let end = pass_component(table, component, msg, pre, b, at, count)?;
     Ok(Followed {
         at: end.at,
         count: end.count,
@@ -92,9 +87,7 @@ fn follow_nowhere(
 // A component of a row with its mark and default, and presence bit b of the preamble at `pre`; the path from a step on.
 pub fn follow(
     table: &Table,
-    row: usize,
-    mark: u64,
-    given: u64,
+    component: ComponentType,
     msg: &[u8],
     pre: usize,
     b: usize,
@@ -103,22 +96,20 @@ pub fn follow(
     path: &[u64],
     step: usize,
 ) -> Result<Followed, Fault>
-    requires { (row < length table.now.rows.now / row_width) × (at ≤ length msg.now) × (length msg.now ≤ 65535) × Fitting (type_of table.now.rows.now table.now.items.now row) mark given × (pre ≤ length msg.now) × (b < 1024) }
-    ensures { Follows table.now.rows.now table.now.items.now msg.now mark given row pre b at count path.now step result }
+    requires { (component.row < length table.now.rows.now / row_width) × (at ≤ length msg.now) × (length msg.now ≤ 65535) × Fitting (type_of table.now.rows.now table.now.items.now component.row) component.mark component.given × (pre ≤ length msg.now) × (b < 1024) }
+    ensures { Follows table.now.rows.now table.now.items.now msg.now component.mark component.given component.row pre b at count path.now step result }
 {
     let ended = path.len() <= step;
     if ended {
-        return follow_end(table, row, mark, given, msg, pre, b, at, count, path, step);
+        return follow_end(table, component, msg, pre, b, at, count, path, step);
     }
-    let opened = open_component(table, row, mark, given, msg, pre, b, at, count, path[step])?;
+    let opened = open_component(table, component, msg, pre, b, at, count, path[step])?;
     match opened {
-        None => follow_nowhere(table, row, mark, given, msg, pre, b, at, count, path, step),
+        None => follow_nowhere(table, component, msg, pre, b, at, count, path, step),
         Some(o) => {
             let child = follow(
                 table,
-                o.row,
-                o.mark,
-                o.given,
+                o.component,
                 msg,
                 at,
                 o.bit,
@@ -127,7 +118,7 @@ pub fn follow(
                 path,
                 step + 1,
             )?;
-            let end = pass_behind(table, row, o, msg, at, child.at, child.count)?;
+            let end = pass_behind(table, component.row, o, msg, at, child.at, child.count)?;
             Ok(Followed {
                 at: end.at,
                 count: end.count,

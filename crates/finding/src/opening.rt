@@ -16,6 +16,7 @@ use octets::tags::read_tag;
 use octets::variable::read_quantity;
 use reading::parts::{count_marked, is_marked, is_padded};
 use reading::tags::find_tag;
+use table::component::ComponentType;
 use table::sound::Table;
 
 // Kind 10: preamble, then the components before the step's own (16.1).
@@ -58,9 +59,11 @@ fn open_sequence(
         count + 1,
     )?;
     Ok(Some(Opening {
-        row: table.component_row(own),
-        mark: table.component_mark(own),
-        given: table.component_default(own),
+        component: ComponentType {
+            row: table.component_row(own),
+            mark: table.component_mark(own),
+            given: table.component_default(own),
+        },
         bit,
         at: before.at,
         count: before.count,
@@ -90,9 +93,11 @@ fn open_sequence_of(
     }
     let before = pass_elements(table, inner, step, msg, q.next, count + 1)?;
     Ok(Some(Opening {
-        row: inner,
-        mark: 0,
-        given: 0,
+        component: ComponentType {
+            row: inner,
+            mark: 0,
+            given: 0,
+        },
         bit: 0,
         at: before.at,
         count: before.count,
@@ -126,9 +131,11 @@ fn open_choice(
         return Err(Cause::NotAllowed.at(at));
     }
     Ok(Some(Opening {
-        row: table.alternative_row(first + k),
-        mark: 0,
-        given: 0,
+        component: ComponentType {
+            row: table.alternative_row(first + k),
+            mark: 0,
+            given: 0,
+        },
         bit: 0,
         at: g.next,
         count: count + 1,
@@ -167,9 +174,7 @@ fn open_group(
 // node more may be counted, no step leads into it.
 pub fn open_component(
     table: &Table,
-    row: usize,
-    mark: u64,
-    given: u64,
+    component: ComponentType,
     msg: &[u8],
     pre: usize,
     b: usize,
@@ -177,17 +182,17 @@ pub fn open_component(
     count: usize,
     step: u64,
 ) -> Result<Option<Opening>, Fault>
-    requires { (row < length table.now.rows.now / row_width) × (at ≤ length msg.now) × (length msg.now ≤ 65535) × Fitting (type_of table.now.rows.now table.now.items.now row) mark given × (pre ≤ length msg.now) × (b < 1024) }
-    ensures { Opens table.now.rows.now table.now.items.now msg.now row at step (read_component node_limit mark given (type_of table.now.rows.now table.now.items.now row) (bit_at msg.now pre b) (length msg.now) (message (drop at msg.now) count)) result }
+    requires { (component.row < length table.now.rows.now / row_width) × (at ≤ length msg.now) × (length msg.now ≤ 65535) × Fitting (type_of table.now.rows.now table.now.items.now component.row) component.mark component.given × (pre ≤ length msg.now) × (b < 1024) }
+    ensures { Opens table.now.rows.now table.now.items.now msg.now component.row at step (read_component node_limit component.mark component.given (type_of table.now.rows.now table.now.items.now component.row) (bit_at msg.now pre b) (length msg.now) (message (drop at msg.now) count)) result }
 {
     if 4096 <= count {
         return Ok(None);
     }
-    if mark == 0 {
-        return open_group(table, row, msg, at, count, step);
+    if component.mark == 0 {
+        return open_group(table, component.row, msg, at, count, step);
     }
     if !is_present(msg, pre, b) {
         return Ok(None);
     }
-    open_group(table, row, msg, at, count, step)
+    open_group(table, component.row, msg, at, count, step)
 }

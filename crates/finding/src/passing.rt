@@ -13,6 +13,7 @@ use octets::faults::{Cause, Fault};
 use octets::presence::is_present;
 use reading::parts::check_default;
 use reading::value::{read_members, read_value};
+use table::component::ComponentType;
 use table::sound::Table;
 
 // A value of a row at octet `at`, with `count` nodes before it.
@@ -58,26 +59,24 @@ fn pass_missing(given: u64, at: usize, count: usize) -> Result<Cursor, Fault>
 // A component of a row with its mark and default, and presence bit b of the preamble at `pre`.
 pub fn pass_component(
     table: &Table,
-    row: usize,
-    mark: u64,
-    given: u64,
+    component: ComponentType,
     msg: &[u8],
     pre: usize,
     b: usize,
     at: usize,
     count: usize,
 ) -> Result<Cursor, Fault>
-    requires { (row < length table.now.rows.now / row_width) × (at ≤ length msg.now) × (length msg.now ≤ 65535) × Fitting (type_of table.now.rows.now table.now.items.now row) mark given × (pre ≤ length msg.now) × (b < 1024) }
-    ensures { Passed number_of msg.now (read_component node_limit mark given (type_of table.now.rows.now table.now.items.now row) (bit_at msg.now pre b) (length msg.now) (message (drop at msg.now) count)) result }
+    requires { (component.row < length table.now.rows.now / row_width) × (at ≤ length msg.now) × (length msg.now ≤ 65535) × Fitting (type_of table.now.rows.now table.now.items.now component.row) component.mark component.given × (pre ≤ length msg.now) × (b < 1024) }
+    ensures { Passed number_of msg.now (read_component node_limit component.mark component.given (type_of table.now.rows.now table.now.items.now component.row) (bit_at msg.now pre b) (length msg.now) (message (drop at msg.now) count)) result }
 {
-    if mark == 0 {
-        return pass_value(table, row, msg, at, count);
+    if component.mark == 0 {
+        return pass_value(table, component.row, msg, at, count);
     }
     if !is_present(msg, pre, b) {
-        return pass_missing(given, at, count);
+        return pass_missing(component.given, at, count);
     }
-    let value = pass_value(table, row, msg, at, count)?;
-    check_default(mark, given, at, value)
+    let value = pass_value(table, component.row, msg, at, count)?;
+    check_default(component.mark, component.given, at, value)
 }
 
 // n components of a row from item `first` on, whose presence bits begin with bit b of the preamble at `pre`.

@@ -9,6 +9,7 @@ use crate::following::follow;
 use crate::spot::Way;
 use decoding::operations::asked_table;
 use octets::faults::{Cause, Part, Refusal};
+use table::component::ComponentType;
 use table::sound::Table;
 
 // Of a row of a sound table: 4, the first fault, 9, 13.
@@ -19,7 +20,12 @@ fn find_below(table: &Table, row: usize, msg: &[u8], path: &[u64]) -> Result<Way
     if 65535 < msg.len() {
         return Err(Cause::Long.at(0).in_part(Part::Message));
     }
-    match follow(table, row, 0, 0, msg, 0, 0, 0, 0, path, 0) {
+    let whole = ComponentType {
+        row,
+        mark: 0,
+        given: 0,
+    };
+    match follow(table, whole, msg, 0, 0, 0, 0, path, 0) {
         Err(fault) => Err(fault.in_part(Part::Message)),
         Ok(end) => {
             if end.at < msg.len() {

@@ -1,12 +1,12 @@
 // What following a path answers, step by step.
-// A child that a step leads into: its row, mark and default, the number of its presence bit, where its own octets
+use table::component::ComponentType;
+
+// A child that a step leads into: what its group says of it, the number of its presence bit, where its own octets
 // begin and the nodes counted before it. Then what stands behind it: the item and the presence bit of the next
 // component, and how many are left.
 #[derive(Clone, Copy)]
 pub struct Opening {
-    pub row: usize,
-    pub mark: u64,
-    pub given: u64,
+    pub component: ComponentType,
     pub bit: usize,
     pub at: usize,
     pub count: usize,
@@ -15,14 +15,12 @@ pub struct Opening {
     pub left: u64,
 }
 
-// Where the component at a path stands: its row, mark and default; whether it is ABSENT; the first of its own octets
+// Where the component at a path stands: what its group says of it; whether it is ABSENT; the first of its own octets
 // and the one behind them, equal where it is not carried; its number of nodes and its node's number; the preamble and
 // the number of its presence bit, where it has one.
 #[derive(Clone, Copy)]
 pub struct Spot {
-    pub row: usize,
-    pub mark: u64,
-    pub given: u64,
+    pub component: ComponentType,
     pub absent: bool,
     pub start: usize,
     pub end: usize,

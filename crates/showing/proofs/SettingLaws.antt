@@ -90,13 +90,13 @@ module _ (rows items : List ℕ) (row : ℕ) (msg path : List ℕ) where
 
   module _ {w : Way} (h : Placed rows items row msg path asked w) where
     abbrev t : Ty
-    t = type_of rows items w.spot.row
+    t = type_of rows items w.spot.component.row
 
     abbrev v : Val
     v = h.spot.value
 
     pub component_there : w.spot.absent ≡ false → ((d : ℕ) → default_sound t d ≡ false)
-        → Fits t v × (own_octets w.spot.mark w.spot.given t v ≡ encode t v)
+        → Fits t v × (own_octets w.spot.component.mark w.spot.component.given t v ≡ encode t v)
     unfolding find
     component_there e none =
         there_fits none (find_fits (type_of rows items row) h.whole path h.spot.finds h.fits)
@@ -107,9 +107,9 @@ module _ (rows items : List ℕ) (row : ℕ) (msg path : List ℕ) where
     unfolding read_setting then answer_as setting_as told
     setting_absent e = rw (h.is, absent_setting_lem t v (sym h.spot.absent ∙ e)) refl
 
-    pub setting_there : {r : Setting} {k f a : ℕ} → w.spot.absent ≡ false → k ≡ row_kind rows w.spot.row
-        → f ≡ row_flags rows w.spot.row
-        → a ≡ row_a rows w.spot.row → r ≡ setting_as (kind_setting k f a w.spot.number)
+    pub setting_there : {r : Setting} {k f a : ℕ} → w.spot.absent ≡ false → k ≡ row_kind rows w.spot.component.row
+        → f ≡ row_flags rows w.spot.component.row
+        → a ≡ row_a rows w.spot.component.row → r ≡ setting_as (kind_setting k f a w.spot.number)
         → told (Ok r) ≡ answer_as (read_setting rows items row msg path)
     unfolding read_setting then answer_as told
     setting_there {k = k} {f} {a} e ek ef ea er =
@@ -117,18 +117,18 @@ module _ (rows items : List ℕ) (row : ℕ) (msg path : List ℕ) where
         ∙ rw (
           h.is,
           there_setting t v (sym h.spot.absent ∙ e),
-          kind_setting_lem rows items w.spot.row (number_of v),
+          kind_setting_lem rows items w.spot.component.row (number_of v),
           ek,
           ef,
           ea,
         ) refl
 
     -- the bits of a single real
-    pub single_small : {k : ℕ} → w.spot.absent ≡ false → k ≡ row_kind rows w.spot.row → k ≡ 4
+    pub single_small : {k : ℕ} → w.spot.absent ≡ false → k ≡ row_kind rows w.spot.component.row → k ≡ 4
         → w.spot.number < 2 ^ 32
     unfolding default_sound
     single_small e ek four =
-        let is = single_type rows items w.spot.row ek four in
+        let is = single_type rows items w.spot.component.row ek four in
         let fits = (component_there e (λ d. rw is refl)).0 in
         rw h.spot.number (small (rw is at fits))
 

@@ -150,7 +150,7 @@ module _ (rows items : List ℕ) (row : ℕ) (msg path : List ℕ) where
 
   module _ {w : Way} (h : Placed rows items row msg path asked w) where
     abbrev t : Ty
-    t = type_of rows items w.spot.row
+    t = type_of rows items w.spot.component.row
 
     abbrev v : Val
     v = h.spot.value
@@ -166,14 +166,14 @@ module _ (rows items : List ℕ) (row : ℕ) (msg path : List ℕ) where
     unfolding shown_if
     text_absent e = shown_is ∙ rw (absent_setting_lem t v (sym h.spot.absent ∙ e)) refl
 
-    module _ (e : w.spot.absent ≡ false) {k : ℕ} (ek : k ≡ row_kind rows w.spot.row) where
+    module _ (e : w.spot.absent ≡ false) {k : ℕ} (ek : k ≡ row_kind rows w.spot.component.row) where
       there : eqb (kind_in v) 0 ≡ false
       there = sym h.spot.absent ∙ e
 
       pub text_other : (k ≡ 7 → ⊥) → (k ≡ 8 → ⊥) → (k ≡ 9 → ⊥) → show_text rows items row msg path ≡ fallback
       text_other seven eight nine =
           shown_is
-          ∙ rw (there_setting t v there, kind_setting_lem rows items w.spot.row (number_of v), ← ek)
+          ∙ rw (there_setting t v there, kind_setting_lem rows items w.spot.component.row (number_of v), ← ek)
           (no_string before t v k _ _ (number_of v) seven eight nine)
 
       string_is : 7 ≤ k → k ≤ 9 → IsString t v (contents_size k (number_of v))
@@ -182,19 +182,19 @@ module _ (rows items : List ℕ) (row : ℕ) (msg path : List ℕ) where
           cases (eqb k 7)
           (λ q.
           let seven : k ≡ 7 = eqb-true k 7 q in
-          let is = octets_type rows items w.spot.row ek refl refl refl seven in
+          let is = octets_type rows items w.spot.component.row ek refl refl refl seven in
           rw (is, seven) (octets_string (rw is at (component_there rows items row msg path h e (λ d. rw is refl)).0)))
           (λ q.
           let seven = eqb-false k 7 q in
           cases (eqb k 8)
           (λ q.
           let eight : k ≡ 8 = eqb-true k 8 q in
-          let is = bits_type rows items w.spot.row ek refl refl refl eight in
+          let is = bits_type rows items w.spot.component.row ek refl refl refl eight in
           rw (is, eight) (bits_string (rw is at (component_there rows items row msg path h e (λ d. rw is refl)).0)))
           (λ q.
           let eight = eqb-false k 8 q in
           let nine : k ≡ 9 = omega arith in
-          let is = visible_type rows items w.spot.row ek nine in
+          let is = visible_type rows items w.spot.component.row ek nine in
           rw (is, nine) (visible_string_lem (rw is at (component_there rows items row msg path h e (λ d. rw is refl)).0))))
 
       module _ (low : 7 ≤ k) (high : k ≤ 9) {size : ℕ} (es : size ≡ contents_size k w.spot.number) where

@@ -36,7 +36,7 @@ pub fn find_text(rows: &[u64], items: &[u64], row: u64, msg: &[u8], path: &[u64]
             if s.absent {
                 return None;
             }
-            let kind = row_kind(rows, s.row);
+            let kind = row_kind(rows, s.component.row);
             if kind < 7 {
                 return None;
             }

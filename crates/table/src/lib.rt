@@ -3,6 +3,7 @@
 
 pub mod bounds;
 pub mod check;
+pub mod component;
 pub mod groups;
 pub mod nestings;
 pub mod numbers;

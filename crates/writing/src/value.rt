@@ -16,6 +16,7 @@ ghost use Rattle.reading.specs.Members.{Members, Member};
 ghost use Rattle.writing.specs.Members.{members, PutAll};
 ghost use Rattle.writing.specs.Noted.{Notes};
 
+use table::component::ComponentType;
 use crate::parts::{is_missing, member_missing, note_presence};
 use octets::faults::{Cause, Fault};
 use octets::nodes::{node_kind, node_number};
@@ -300,9 +301,7 @@ fn write_choice(
 // A component with its mark and default: a value of a row, or the node alone that stands for what is not carried.
 pub fn write_component(
     table: &Table,
-    row: usize,
-    mark: u64,
-    default: u64,
+    component: ComponentType,
     nodes: &[u64],
     contents: &[u8],
     at: usize,
@@ -310,18 +309,18 @@ pub fn write_component(
     to: usize,
     out: &mut [u8],
 ) -> Result<Pen, Fault>
-    requires { (row < length table.now.rows.now / row_width) × (length nodes.now ≤ 8192) × (at * node_width ≤ length nodes.now) × (used ≤ length contents.now) × (length contents.now ≤ 65535) × (to ≤ 65536 + (at * node_octets + used)) × ((1 < mark) → default_sound (type_of table.now.rows.now table.now.items.now row) «default» ≡ true) }
-    ensures { Put nodes.now contents.now (walk_component mark (type_of table.now.rows.now table.now.items.now row) (listed_at nodes.now contents.now at used)) (λ v. own_octets mark «default» (type_of table.now.rows.now table.now.items.now row) v) at used to out.old out.new result }
+    requires { (component.row < length table.now.rows.now / row_width) × (length nodes.now ≤ 8192) × (at * node_width ≤ length nodes.now) × (used ≤ length contents.now) × (length contents.now ≤ 65535) × (to ≤ 65536 + (at * node_octets + used)) × ((1 < component.mark) → default_sound (type_of table.now.rows.now table.now.items.now component.row) component.given ≡ true) }
+    ensures { Put nodes.now contents.now (walk_component component.mark (type_of table.now.rows.now table.now.items.now component.row) (listed_at nodes.now contents.now at used)) (λ v. own_octets component.mark component.given (type_of table.now.rows.now table.now.items.now component.row) v) at used to out.old out.new result }
 {
-    if mark == 0 {
-        return write_value(table, row, nodes, contents, at, used, to, out);
+    if component.mark == 0 {
+        return write_value(table, component.row, nodes, contents, at, used, to, out);
     }
-    if is_missing(nodes, at, table.row_kind(row), mark, default) {
+    if is_missing(nodes, at, table.row_kind(component.row), component.mark, component.given) {
         return Ok(Pen {
             at: at + 1,
             used,
             to,
         });
     }
-    write_value(table, row, nodes, contents, at, used, to, out)
+    write_value(table, component.row, nodes, contents, at, used, to, out)
 }

@@ -2,4 +2,4 @@
 use Rattle.finding.proofs.following.+follow.Given as goal
 
 abbrev pub decreases-follow : goal.decreases-follow
-decreases-follow l = l.row
+decreases-follow l = l.component.row
