@@ -124,7 +124,7 @@ pub fn decode(
     ensures { Decodes (decoded rows.now items.now row msg.now nodes.old contents.old) nodes.new contents.new result }
 {
     match put_value(rows, items, row, msg, nodes, contents) {
-        Ok(c) => done(c.nodes as u64, c.octets as u64),
+        Ok(value) => done(value.nodes as u64, value.octets as u64),
         Err(refusal) => Reply::from(refusal),
     }
 }

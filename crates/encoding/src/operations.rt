@@ -91,7 +91,7 @@ pub fn encode(
     ensures { Writes (encode_list rows.now items.now row nodes.now contents.now out.old) out.new result }
 {
     match put_list(rows, items, row, nodes, contents, out) {
-        Ok(n) => done(0, n as u64),
+        Ok(octets) => done(0, octets as u64),
         Err(refusal) => Reply::from(refusal),
     }
 }

@@ -100,9 +100,7 @@ module _ (rows items msg : List ℕ) (m d row pre b at count : ℕ) (inside : at
       (known : row < length rows / row_width) (fit : Fitting t m d) where
     abbrev spot : Spot
     spot = record {
-      row = row;
-      mark = m;
-      given = d;
+      component = record { row = row; mark = m; given = d };
       absent = a;
       start = at;
       end = c.at;

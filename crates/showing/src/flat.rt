@@ -69,7 +69,7 @@ fn there(what: u64, word: u64) -> FlatSetting
 }
 
 // Ruled out, for instance: a signed number as an unsigned one, and a real's value in place of its bits.
-fn flatten(s: Setting) -> FlatSetting
+pub fn flatten(s: Setting) -> FlatSetting
     ensures { result ≡ flat_of s }
 {
     match s {
