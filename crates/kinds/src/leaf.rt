@@ -9,7 +9,7 @@ use crate::cursor::Cursor;
 use crate::integer::read_integer;
 use crate::listed::read_listed;
 use crate::plain::read_boolean;
-use crate::real::{read_double, read_single};
+use crate::real::{Double, Single, read_real};
 use crate::text::read_text;
 use octets::answers::Number;
 use octets::faults::{Cause, Fault};
@@ -43,10 +43,10 @@ pub fn read_scalar(
         );
     }
     if kind == 4 {
-        return read_single(msg, at);
+        return read_real::<Single>(msg, at);
     }
     if kind == 5 {
-        return read_double(msg, at);
+        return read_real::<Double>(msg, at);
     }
     // NULL: no octets (15)
     Ok(Number { value: 0, next: at })
