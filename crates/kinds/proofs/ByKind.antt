@@ -6,16 +6,19 @@ use mathlib.Core.List.{List}
 use Prim.Native.Nat.{ℕ, ◌+◌, ◌/◌, ◌<◌, ◌≤◌}
 use native.Mathlib.Omega.{arith}
 use lib.ListN.{length}
+use lib.Dec.{eqb}
+use borrow.Author.Tests.{eqb-true, eqb-false}
+use Rattle.x696.proofs.OutcomeLaws.{cases}
 use Rattle.x696.specs.Outcome.{choose}
 use Rattle.x696.specs.Real.{binary32, binary64}
-use Rattle.x696.specs.Leaf.{Leaf, boolean, null, integer, enumerated, real, octet_string, bit_string, visible_string}
+use Rattle.x696.specs.Leaf.{Leaf, boolean, null, integer, enumerated, real, octet_string, bit_string}
 use Rattle.x696.specs.Types.{leaf}
 use Rattle.x696.specs.Table.{row_kind, row_flags, row_a, row_b, row_first, row_count, item_width, numbers_from, type_by, type_of}
 use Rattle.x696.specs.TableFault.{row_sound}
 use Rattle.x696.proofs.TableLaws.{type_of_row}
 use Rattle.x696.proofs.TableRows.{kind_known, enumerated_row}
 use Rattle.table.specs.Orders.{Ascends}
-use Rattle.kinds.specs.Run.{ScalarAnswer, Ran, inside_at, leaf_at}
+use Rattle.kinds.specs.Run.{ScalarAnswer, Ran, inside_at, leaf_at, text_leaf}
 use Rattle.std.proofs.Common.{Result}
 use Rattle.octets.specs.declared.faults.Fault.{Fault}
 use Rattle.octets.specs.declared.answers.Number.{Number}
@@ -24,8 +27,8 @@ use Rattle.kinds.specs.declared.cursor.Cursor.{Cursor}
 six : (k : ℕ) → 0 < k → k < 7 → (k ≡ 1 → ⊥) → (k ≡ 2 → ⊥) → (k ≡ 3 → ⊥) → (k ≡ 4 → ⊥) → (k ≡ 5 → ⊥) → k ≡ 6
 six k h g one two three four five = omega arith
 
-nine : (k : ℕ) → 6 < k → k < 10 → (k ≡ 7 → ⊥) → (k ≡ 8 → ⊥) → k ≡ 9
-nine k h g seven eight = omega arith
+seven : (k : ℕ) → 6 < k → k < 10 → (k ≡ 8 → ⊥) → (k ≡ 9 → ⊥) → k ≡ 7
+seven k h g eight nine = omega arith
 
 module _ (rows items : List ℕ) (row : ℕ) where
   -- the answer for a row's type
@@ -83,10 +86,11 @@ module _ (rows items : List ℕ) (row : ℕ) where
       unfolding type_by choose
       bits_type e = rw (type_of_row rows items row, ← ek, e, ← ef, ← ea, ← eb)
 
-      -- the last kind is what is none of the others
-      pub visible_type : 6 < row_kind rows row → row_kind rows row < 10 → (kind ≡ 7 → ⊥) → (kind ≡ 8 → ⊥)
-          → type_of rows items row ≡ leaf (visible_string f a b)
-      unfolding type_by choose
-      visible_type g h seven eight =
-          let e : kind ≡ 9 = nine kind (rw ek g) (rw ek h) seven eight in
-          rw (type_of_row rows items row, ← ek, e, ← ef, ← ea, ← eb)
+      -- the other strings: VisibleString is 9, and OCTET STRING what is none of the others
+      pub text_type : 6 < kind → kind < 10 → (kind ≡ 8 → ⊥)
+          → type_of rows items row ≡ leaf (text_leaf (eqb kind 9) f a b)
+      unfolding text_leaf type_by choose
+      text_type g h eight =
+          cases (eqb kind 9)
+          (λ t. let e : kind ≡ 9 = eqb-true kind 9 t in rw (t, type_of_row rows items row, ← ek, e, ← ef, ← ea, ← eb))
+          (λ t. rw t (octets_type (seven kind g h eight (eqb-false kind 9 t))))

@@ -1,12 +1,11 @@
 -- Values that are a number and a test of it: INTEGER, ENUMERATED, REAL.
 -- Premises are the callees' `ensures` and the tests as they went. Assumes nothing.
 use mathlib.Core.Path.{◌≡◌, refl, ap, ◌∙◌}
-use mathlib.Core.Bool.{Bool, true, false, ◌||◌}
+use mathlib.Core.Bool.{Bool, true, false}
 use mathlib.Core.List.{List, []}
-use Prim.Native.Nat.{ℕ, ◌+◌, ◌-◌, ◌^◌, ◌%◌, ◌<◌, ◌≤◌}
+use Prim.Native.Nat.{ℕ, ◌+◌, ◌-◌, ◌<◌, ◌≤◌}
+use native.Mathlib.Omega.{arith}
 use lib.ListN.{length, take, drop}
-use lib.Dec.{leb, eqb}
-use borrow.Author.Tests.{le-leb, lt-leb}
 use Rattle.x696.specs.Outcome.{Outcome, refused, got, next, must}
 use Rattle.x696.specs.Digits.{from_digits}
 use Rattle.x696.specs.Length.{run}
@@ -33,18 +32,10 @@ pub record Tested (q : Outcome Message Val) (o : Outcome (List ℕ) ℕ) (t : �
   pub is : q ≡ in_message (next o λ w r. must (t w) (code_of j) p (got (node k w [] no_values) r)) count
 
 -- ---- the kinds
--- how many octets a REAL has, and its kind
-pub record RealForm (w : Precision) (n k : ℕ) : Type 0 where
-  pub octets : real_octets w ≡ n
-  pub kind : real_kind w ≡ k
-
-pub single : RealForm binary32 4 4
-unfolding real_octets real_kind
-single = record { octets = refl; kind = refl }
-
-pub double : RealForm binary64 8 5
-unfolding real_octets real_kind
-double = record { octets = refl; kind = refl }
+pub real_few : (w : Precision) → real_octets w ≤ 8
+unfolding real_octets
+real_few binary32 = omega arith
+real_few binary64 = omega arith
 
 -- bits are an unsigned number of a fixed size
 number_in : (o : Outcome (List ℕ) (List ℕ)) (g : ℕ → List ℕ → Outcome (List ℕ) Val)
@@ -65,15 +56,16 @@ module _ (msg : List ℕ) (at count : ℕ) (h : at ≤ length msg) where
   unfolding read_leaf
   enumerated_tested ns = record { is = leaf_is (enumerated ns) msg at count h }
 
-  real_tested : {w : Precision} {n k : ℕ} → RealForm w n k
-      → Tested (leaf_at (real w) msg at count) (read_form (fixed_unsigned n) at (drop at msg)) (real_allowed w) NotCanonical k at count
+  real_tested : (w : Precision) {n : ℕ} → n ≡ real_octets w
+      → Tested (leaf_at (real w) msg at count) (read_form (fixed_unsigned n) at (drop at msg)) (real_allowed w) NotCanonical
+      (real_kind w) at count
   unfolding read_leaf read_form
-  real_tested {w} {n} {k} f = record {
+  real_tested w {n} e = record {
     is =
         leaf_is (real w) msg at count h
-        ∙ rw (f.octets, f.kind)
+        ∙ rw (← e)
         (ap (λ o. in_message o count)
-        (number_in (run at n (drop at msg)) (λ x r. must (real_allowed w x) 6 at (got (node k x [] no_values) r))));
+        (number_in (run at n (drop at msg)) (λ x r. must (real_allowed w x) 6 at (got (node (real_kind w) x [] no_values) r))));
   }
 
 -- ---- the answers
@@ -96,45 +88,26 @@ module _
           scalar_found (w.is ∙ rw ((answer.went n e).reads, ← ey, good))
           (answer.went n e).inside (answer.went n e).ahead
 
--- ---- REAL: which bits are allowed
-pub record RealBits (w : Precision) (half top nan : ℕ) : Type 0 where
-  pub is : (n : ℕ) → real_allowed w n ≡ leb (n % half) top || eqb n nan
-
-pub single_bits : RealBits binary32 (2 ^ 31) 0x7F800000 0x7FC00000
-unfolding real_allowed
-single_bits = record { is = λ n. refl }
-
-pub double_bits : RealBits binary64 (2 ^ 63) 0x7FF0000000000000 0x7FF8000000000000
-unfolding real_allowed
-double_bits = record { is = λ n. refl }
-
-module _ {w : Precision} {half top nan : ℕ} (f : RealBits w half top nan) (n : ℕ) where
-  pub bits_plain : n % half ≤ top → true ≡ real_allowed w n
-  bits_plain h = rw (f.is n, le-leb (n % half) top h)
-
-  pub bits_nan : top < n % half → eqb n nan ≡ real_allowed w n
-  bits_nan h = rw (f.is n, lt-leb (n % half) top h)
-
 -- ---- REAL: its octets there or not
 module _
-    {w : Precision} {m k : ℕ} (f : RealForm w m k) (msg : List ℕ) {at count : ℕ} (h : at ≤ length msg)
+    (w : Precision) {m : ℕ} (f : m ≡ real_octets w) (msg : List ℕ) {at count : ℕ} (h : at ≤ length msg)
   where
     pub real_lacks : {stop : Fault} → length msg - at < m → stop ≡ fault Short at
-        → ScalarAnswer msg (leaf_at (real w) msg at count) k at count (Err stop)
-    real_lacks {stop} g e = tested_stops (real_tested msg at count h f) (unsigned_lacks msg at m h g e) stop refl
+        → ScalarAnswer msg (leaf_at (real w) msg at count) (real_kind w) at count (Err stop)
+    real_lacks {stop} g e = tested_stops (real_tested msg at count h w f) (unsigned_lacks msg at m h g e) stop refl
 
     module _
         (g : m ≤ length msg - at) {n : ℕ} (en : n ≡ from_digits 8 (take m (drop at msg))) {y : Bool}
         (ey : y ≡ real_allowed w n)
       where
         pub real_refuses : {stop : Fault} → y ≡ false → stop ≡ fault NotCanonical at
-            → ScalarAnswer msg (leaf_at (real w) msg at count) k at count (Err stop)
+            → ScalarAnswer msg (leaf_at (real w) msg at count) (real_kind w) at count (Err stop)
         real_refuses =
-            tested_refuses (real_tested msg at count h f)
+            tested_refuses (real_tested msg at count h w f)
             (unsigned_there msg at m h g en refl) (number n (at + m)) refl ey
 
         pub real_goes : {x : Result Number Fault} → y ≡ true → x ≡ Ok (number n (at + m))
-            → ScalarAnswer msg (leaf_at (real w) msg at count) k at count x
+            → ScalarAnswer msg (leaf_at (real w) msg at count) (real_kind w) at count x
         real_goes =
-            tested_goes (real_tested msg at count h f)
+            tested_goes (real_tested msg at count h w f)
             (unsigned_there msg at m h g en refl) (number n (at + m)) refl ey

@@ -1,7 +1,7 @@
 -- OCTET STRING and VisibleString: the answer of their readers, one law for each way out.
 -- Premises are the callees' `ensures` and the tests as they went. Assumes nothing.
-use mathlib.Core.Path.{◌≡◌, refl, ◌∙◌}
-use mathlib.Core.Bool.{Bool, true, false}
+use mathlib.Core.Path.{◌≡◌, ◌∙◌}
+use mathlib.Core.Bool.{Bool, true, false, not, ◌||◌, cond}
 use mathlib.Core.List.{List, [], ◌∷◌}
 use Prim.Native.Nat.{ℕ, ◌+◌, ◌*◌, ◌≤◌}
 use native.Mathlib.Omega.{arith}
@@ -11,12 +11,12 @@ use Rattle.x696.specs.Outcome.{got, next, must, choose}
 use Rattle.x696.specs.Length.{run, read_run}
 use Rattle.x696.specs.String.{fixed_size, size_allowed, any_octets, visible, read_text}
 use Rattle.x696.specs.Value.{node, no_values}
-use Rattle.x696.specs.Leaf.{Leaf, octet_string, visible_string, read_leaf}
+use Rattle.x696.specs.Leaf.{Leaf, read_leaf}
 use Rattle.octets.specs.Answers.{fault, RunAnswer}
 use Rattle.octets.specs.declared.faults.Fault.{Fault}
 use Rattle.octets.specs.declared.answers.Piece.{Piece}
 use Rattle.octets.proofs.CountedRuns.{length_run}
-use Rattle.kinds.specs.Run.{cursor, Ran, leaf_at, text_run, in_message}
+use Rattle.kinds.specs.Run.{cursor, Ran, leaf_at, text_leaf, text_run, in_message}
 use Rattle.kinds.proofs.Ran.{leaf_is, ran_refused, ran_fault, ran_leaf}
 use Rattle.std.proofs.Common.{Result, Ok, Err}
 use Rattle.octets.specs.declared.faults.Cause.TheVariants.{NotAllowed}
@@ -36,17 +36,12 @@ module _ (f a b p : ℕ) (s : List ℕ) {t : Bool} (e : t ≡ fixed_size f a b) 
 pub record Text (l : Leaf) (characters : List ℕ → Bool) (kind f a b : ℕ) : Type 0 where
   pub reads : (p : ℕ) (s : List ℕ) → read_leaf l p s ≡ read_text characters kind f a b p s
 
-pub octets_text : (f a b : ℕ) → Text (octet_string f a b) (λ os. any_octets os) 7 f a b
-unfolding read_leaf
-octets_text f a b = record { reads = λ p s. refl }
-
-pub visible_text : (f a b : ℕ) → Text (visible_string f a b) (λ os. visible os) 9 f a b
-unfolding read_leaf
-visible_text f a b = record { reads = λ p s. refl }
-
-pub any_octets_lem : (os : List ℕ) → true ≡ any_octets os
-unfolding any_octets
-any_octets_lem os = refl
+-- an OCTET STRING is of any octets
+pub text_kind : (shown : Bool) (f a b : ℕ) {kind : ℕ} → kind ≡ cond shown 9 7
+    → Text (text_leaf shown f a b) (λ os. not shown || visible os) kind f a b
+unfolding text_leaf read_leaf any_octets
+text_kind true f a b e = record { reads = λ p s. rw e }
+text_kind false f a b e = record { reads = λ p s. rw e }
 
 -- ---- the answers, from the run that was found
 module _ {l : Leaf} {characters : List ℕ → Bool} {kind f a b : ℕ} (k : Text l characters kind f a b) where

@@ -1,13 +1,13 @@
 -- What a reader's answer says in the terms of `read`: where it stands, and what the two lent buffers then hold.
 -- Stores skip what does not fit (`sets`), so the same contract at empty buffers is validation. After a refusal nothing
 -- is said of the buffers: the operations lend empty parts first. Assumes nothing.
-use Rattle.std.specs.Prelude.{◌≡◌, List, [], ℕ, suc, ◌+◌, ◌*◌, ◌≤◌, length, take, drop}
+use Rattle.std.specs.Prelude.{◌≡◌, Bool, cond, List, [], ℕ, suc, ◌+◌, ◌*◌, ◌≤◌, length, take, drop}
 use Rattle.std.proofs.lemmas.List.Edits.{sets}
 use Rattle.x696.specs.Outcome.{Outcome, refused, got, next, choose}
 use Rattle.x696.specs.Length.{run, read_run}
 use Rattle.x696.specs.String.{fixed_size, read_fixed_bits, bits_in}
 use Rattle.x696.specs.Value.{Val, node, no_values, node_width, size, nodes, contents}
-use Rattle.x696.specs.Leaf.{Leaf}
+use Rattle.x696.specs.Leaf.{Leaf, octet_string, visible_string}
 use Rattle.x696.specs.Types.{Ty, leaf}
 use Rattle.x696.specs.Read.{Message, message, read_inside}
 use Rattle.x696.specs.Operations.{node_limit}
@@ -59,6 +59,10 @@ abbrev pub leaf_at : Leaf → (msg : List ℕ) → (at count : ℕ) → Outcome 
 leaf_at l msg at count = inside_at (leaf l) msg at count
 
 -- ---- parts of the definitions of X.696, under names
+-- a string of characters where they are to be shown, else of octets
+unfoldable pub text_leaf : (visible : Bool) → (flags a b : ℕ) → Leaf
+text_leaf v f a b = cond v (visible_string f a b) (octet_string f a b)
+
 -- a string's contents: of a fixed size, or behind a determinant
 unfoldable pub text_run : (flags a b p : ℕ) → List ℕ → Outcome (List ℕ) (List ℕ)
 text_run f a b p s = choose (fixed_size f a b) (λ _. run p a s) (λ _. read_run p s)

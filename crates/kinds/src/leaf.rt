@@ -9,8 +9,8 @@ use crate::cursor::Cursor;
 use crate::integer::read_integer;
 use crate::listed::read_listed;
 use crate::plain::read_boolean;
-use crate::real::{read_double, read_single};
-use crate::text::{read_octets, read_visible};
+use crate::real::{Double, Single, read_real};
+use crate::text::read_text;
 use octets::answers::Number;
 use octets::faults::{Cause, Fault};
 use table::words::{row_bounds, row_count, row_first, row_kind};
@@ -43,10 +43,10 @@ pub fn read_scalar(
         );
     }
     if kind == 4 {
-        return read_single(msg, at);
+        return read_real::<Single>(msg, at);
     }
     if kind == 5 {
-        return read_double(msg, at);
+        return read_real::<Double>(msg, at);
     }
     // NULL: no octets (15)
     Ok(Number { value: 0, next: at })
@@ -69,11 +69,8 @@ pub fn read_string(
 {
     let kind = row_kind(rows, row);
     let bounds = row_bounds(rows, row);
-    if kind == 7 {
-        return read_octets(bounds, msg, at, count, used, nodes, contents);
-    }
     if kind == 8 {
         return read_bits(bounds, msg, at, count, used, nodes, contents);
     }
-    read_visible(bounds, msg, at, count, used, nodes, contents)
+    read_text(kind == 9, bounds, msg, at, count, used, nodes, contents)
 }

@@ -1,8 +1,8 @@
 // OCTET STRING (14) and VisibleString (27): the run, its size, its characters.
-ghost use Rattle.std.specs.Prelude.{◌<◌, ◌≤◌, length, drop};
-ghost use Rattle.x696.specs.Leaf.{octet_string, visible_string};
+ghost use Rattle.std.specs.Prelude.{◌≡◌, not, ◌||◌, ◌+◌, ◌<◌, ◌≤◌, length, take, drop};
+ghost use Rattle.x696.specs.String.{visible};
 ghost use Rattle.octets.specs.Answers.{RunAnswer};
-ghost use Rattle.kinds.specs.Run.{Ran, leaf_at, text_run};
+ghost use Rattle.kinds.specs.Run.{Ran, leaf_at, text_leaf, text_run};
 
 use crate::cursor::Cursor;
 use octets::answers::Piece;
@@ -25,34 +25,17 @@ fn run_of(bounds: Bounds, msg: &[u8], at: usize) -> Result<Piece, Fault>
     }
 }
 
-pub fn read_octets(
-    bounds: Bounds,
-    msg: &[u8],
-    at: usize,
-    count: usize,
-    used: usize,
-    nodes: &mut [u64],
-    contents: &mut [u8],
-) -> Result<Cursor, Fault>
-    requires { (count < 4096) × (at ≤ length msg.now) × (used ≤ at) }
-    ensures { Ran msg.now (leaf_at (octet_string bounds.flags bounds.a bounds.b) msg.now at count) at count used nodes.old contents.old nodes.new contents.new result }
+// Whether the n octets from `used` on are characters of the string's type: any are an OCTET STRING's.
+pub fn has_characters(shown: bool, contents: &[u8], used: usize, n: usize) -> bool
+    requires { used + n ≤ length contents.now }
+    ensures { result ≡ not shown || visible (take n (drop used contents.now)) }
 {
-    let run = run_of(bounds, msg, at)?;
-    let n = run.length.0;
-    if !bounds.allows_size(n) {
-        return Err(Cause::NotAllowed.at(at));
-    }
-    put_node(nodes, count, 7, n);
-    copy(msg, run.start, n as usize, contents, used);
-    Ok(Cursor {
-        at: run.start + n as usize,
-        count: count + 1,
-        used: used + n as usize,
-        number: n,
-    })
+    !shown || is_visible(contents, used, n)
 }
 
-pub fn read_visible(
+// A VisibleString where its characters are to be shown, else an OCTET STRING.
+pub fn read_text(
+    shown: bool,
     bounds: Bounds,
     msg: &[u8],
     at: usize,
@@ -62,17 +45,18 @@ pub fn read_visible(
     contents: &mut [u8],
 ) -> Result<Cursor, Fault>
     requires { (count < 4096) × (at ≤ length msg.now) × (used ≤ at) }
-    ensures { Ran msg.now (leaf_at (visible_string bounds.flags bounds.a bounds.b) msg.now at count) at count used nodes.old contents.old nodes.new contents.new result }
+    ensures { Ran msg.now (leaf_at (text_leaf shown bounds.flags bounds.a bounds.b) msg.now at count) at count used nodes.old contents.old nodes.new contents.new result }
 {
     let run = run_of(bounds, msg, at)?;
     let n = run.length.0;
     if !bounds.allows_size(n) {
         return Err(Cause::NotAllowed.at(at));
     }
-    if !is_visible(msg, run.start, n as usize) {
+    if !has_characters(shown, msg, run.start, n as usize) {
         return Err(Cause::NotAllowed.at(at));
     }
-    put_node(nodes, count, 9, n);
+    let kind = if shown { 9 } else { 7 };
+    put_node(nodes, count, kind, n);
     copy(msg, run.start, n as usize, contents, used);
     Ok(Cursor {
         at: run.start + n as usize,

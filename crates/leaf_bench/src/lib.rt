@@ -4,41 +4,23 @@
 
 ghost use Rattle.std.specs.Prelude.{◌≤◌, ℕ};
 
+use octets::answers::Number;
+use octets::faults::Fault;
 use octets::lengths::{put_length, read_run};
 use octets::tags::{put_tag, read_tag};
 use octets::units::Octets;
 use octets::variable::{put_unsigned, read_unsigned};
 
-// Reads runs one after another, each behind its length determinant: the sum of their lengths.
-#[unsafe(no_mangle)]
-pub extern "C" fn leaf_read_lengths(msg: &[u8], rounds: u64) -> u64 {
+// Reads leaves one after another by `read`, which answers a number and where the next leaf stands: the sum of the numbers, or what
+// stands for the first refusal.
+fn read_all<F: Fn(&[u8], usize) -> Result<Number, Fault>>(read: F, msg: &[u8], rounds: u64) -> u64
+    requires { (lent : _) (at : ℕ) → F.pre read lent at }
+{
     let mut at = 0;
     let mut sum = 0;
     for _ in 0..rounds {
-        match read_run(msg, at, at) {
-            Err(f) => {
-                return f.cause.number();
-            }
-            Ok(p) => {
-                let length = p.length;
-                sum = std::num::wrapping_add_u64(sum, length.0);
-                at = p.start + length.0 as usize;
-            }
-        }
-    }
-    sum
-}
-
-// Reads variable-size unsigned numbers one after another: their sum.
-#[unsafe(no_mangle)]
-pub extern "C" fn leaf_read_numbers(msg: &[u8], rounds: u64) -> u64 {
-    let mut at = 0;
-    let mut sum = 0;
-    for _ in 0..rounds {
-        match read_unsigned(msg, at, at) {
-            Err(f) => {
-                return f.cause.number();
-            }
+        match read(msg, at) {
+            Err(f) => return f.cause.number(),
             Ok(n) => {
                 sum = std::num::wrapping_add_u64(sum, n.value);
                 at = n.next;
@@ -48,23 +30,40 @@ pub extern "C" fn leaf_read_numbers(msg: &[u8], rounds: u64) -> u64 {
     sum
 }
 
+// The length of a run, and where the next one stands.
+fn length_at(msg: &[u8], at: usize) -> Result<Number, Fault> {
+    let run = read_run(msg, at, at)?;
+    Ok(Number {
+        value: run.length.0,
+        next: run.start + run.length.0 as usize,
+    })
+}
+
+// The number of a tag, and where the next one stands.
+fn tag_number_at(msg: &[u8], at: usize) -> Result<Number, Fault> {
+    let tag = read_tag(msg, at, at)?;
+    Ok(Number {
+        value: tag.number,
+        next: tag.next,
+    })
+}
+
+// Reads runs one after another, each behind its length determinant: the sum of their lengths.
+#[unsafe(no_mangle)]
+pub extern "C" fn leaf_read_lengths(msg: &[u8], rounds: u64) -> u64 {
+    read_all(length_at, msg, rounds)
+}
+
+// Reads variable-size unsigned numbers one after another: their sum.
+#[unsafe(no_mangle)]
+pub extern "C" fn leaf_read_numbers(msg: &[u8], rounds: u64) -> u64 {
+    read_all(|lent, at| read_unsigned(lent, at, at), msg, rounds)
+}
+
 // Reads tags one after another: the sum of their numbers.
 #[unsafe(no_mangle)]
 pub extern "C" fn leaf_read_tags(msg: &[u8], rounds: u64) -> u64 {
-    let mut at = 0;
-    let mut sum = 0;
-    for _ in 0..rounds {
-        match read_tag(msg, at, at) {
-            Err(f) => {
-                return f.cause.number();
-            }
-            Ok(g) => {
-                sum = std::num::wrapping_add_u64(sum, g.number);
-                at = g.next;
-            }
-        }
-    }
-    sum
+    read_all(tag_number_at, msg, rounds)
 }
 
 // Writes words one after another by `put`, which answers where the next one goes: where the last ends.

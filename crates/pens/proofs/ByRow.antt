@@ -3,20 +3,15 @@
 use mathlib.Core.Path.{◌≡◌}
 use mathlib.Core.Bool.{true}
 use mathlib.Core.List.{List}
-use Prim.Native.Nat.{ℕ, ◌<◌, ◌≤◌}
+use Prim.Native.Nat.{ℕ, ◌<◌}
 use native.Mathlib.Omega.{arith}
-use lib.Dec.{eqb}
-use borrow.Author.Tests.{eqb-true, eqb-false}
-use Rattle.x696.proofs.OutcomeLaws.{cases}
-use Rattle.x696.specs.Outcome.{choose}
 use Rattle.x696.specs.Leaf.{Leaf, integer}
 use Rattle.x696.specs.Types.{Ty, leaf}
-use Rattle.x696.specs.Table.{row_kind, row_flags, row_a, row_b, type_by, type_of}
+use Rattle.x696.specs.Table.{row_kind, row_flags, row_a, row_b, type_of}
 use Rattle.x696.specs.TableFault.{row_sound}
-use Rattle.x696.proofs.TableLaws.{type_of_row}
 use Rattle.x696.proofs.TableRows.{kind_known}
-use Rattle.kinds.proofs.ByKind.{integer_type, octets_type}
-use Rattle.pens.specs.Flat.{Numbered, RowNumbered, Headed, RowHeaded, text_leaf}
+use Rattle.kinds.proofs.ByKind.{integer_type}
+use Rattle.pens.specs.Flat.{Numbered, RowNumbered, Headed, RowHeaded}
 use Rattle.std.proofs.Common.{Result}
 use Rattle.pens.specs.declared.head.Head.{Head}
 use Rattle.octets.specs.declared.faults.Cause.{Cause}
@@ -41,14 +36,3 @@ module _ (rows items : List ℕ) (row : ℕ) {kind : ℕ} (ek : kind ≡ row_kin
   integer_last s h one three four five six =
       integer_type rows items row ek ef ea eb
       (two (rw ek (kind_known rows items row s).0) h one three four five six)
-
-  -- of the strings, those that are not of bits
-  pub text_type : 7 ≤ kind → kind < 10 → (kind ≡ 8 → ⊥) → type_of rows items row ≡ leaf (text_leaf (eqb kind 9) f a b)
-  unfolding text_leaf type_by choose
-  text_type h g eight =
-      cases (eqb kind 9)
-      (λ t. let e : kind ≡ 9 = eqb-true kind 9 t in rw (t, type_of_row rows items row, ← ek, e, ← ef, ← ea, ← eb))
-      (λ t.
-      let nine : kind ≡ 9 → ⊥ = eqb-false kind 9 t in
-      let e : kind ≡ 7 = omega arith in
-      rw t (octets_type rows items row ek ef ea eb e))

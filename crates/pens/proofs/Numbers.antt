@@ -3,7 +3,7 @@
 use mathlib.Core.Path.{◌≡◌, refl, ◌∙◌}
 use mathlib.Core.Bool.{Bool, true, false}
 use mathlib.Core.List.{List, [], ◌∷◌}
-use Prim.Native.Nat.{ℕ, ◌+◌, ◌*◌, ◌^◌, ◌<◌, ◌≤◌}
+use Prim.Native.Nat.{ℕ, ◌+◌, ◌-◌, ◌*◌, ◌^◌, ◌<◌, ◌≤◌}
 use native.Mathlib.Omega.{arith}
 use lib.ListN.{length, set}
 use lib.Seq.{sets}
@@ -14,10 +14,11 @@ use Rattle.x696.specs.Digits.{digits}
 use Rattle.x696.proofs.DigitsLaws.{digits_length}
 use Rattle.x696.specs.Integer.{allowed, integer_form, form_octets}
 use Rattle.x696.specs.Enumerated.{listed, enumerated_octets}
-use Rattle.x696.specs.Real.{binary32, binary64, real_octets, real_allowed}
+use Rattle.x696.specs.Real.{Precision, binary32, binary64, real_octets, real_allowed}
 use Rattle.x696.specs.Value.{node, no_values}
-use Rattle.x696.specs.Leaf.{Leaf, boolean, null, integer, enumerated, real, real_kind, leaf_kind, encode_leaf}
+use Rattle.x696.specs.Leaf.{Leaf, boolean, null, integer, enumerated, real, leaf_kind, encode_leaf}
 use Rattle.x696.specs.Walk.{Listed, walk_leaf}
+use Rattle.kinds.specs.Format.{Format}
 use Rattle.pens.specs.Flat.{Stored, Numbered}
 use Rattle.std.proofs.Common.{Ok, Err}
 use Rattle.octets.specs.declared.faults.Cause.{Cause}
@@ -49,13 +50,29 @@ module _ (n : ℕ) where
   unfolding walk_leaf leaf_kind encode_leaf must
   listed_checked ns = record { is = λ q s. refl; octets = refl }
 
-  pub single_checked : Checked (real binary32) n (ltb n (2 ^ 32)) (real_allowed binary32 n) (digits 8 4 n)
-  unfolding walk_leaf leaf_kind real_kind encode_leaf real_octets
-  single_checked = record { is = λ q s. refl; octets = refl }
+  pub real_checked : (w : Precision)
+      → Checked (real w) n (ltb n (2 ^ (8 * real_octets w))) (real_allowed w n) (digits 8 (real_octets w) n)
+  unfolding walk_leaf leaf_kind encode_leaf
+  real_checked w = record { is = λ q s. refl; octets = refl }
 
-  pub double_checked : Checked (real binary64) n (ltb n (2 ^ 64)) (real_allowed binary64 n) (digits 8 8 n)
-  unfolding walk_leaf leaf_kind real_kind encode_leaf real_octets
-  double_checked = record { is = λ q s. refl; octets = refl }
+-- the form of a REAL by the weight s of its sign
+twice : (w : Precision) (s : ℕ) → s + s ≡ 2 ^ (8 * real_octets w) → (0 < s) × (s + s ≤ 2 ^ 64)
+unfolding real_octets
+twice binary32 s h = (omega (arith, h), omega (arith, h))
+twice binary64 s h = (omega (arith, h), omega (arith, h))
+
+module _ {w : Precision} {m sign infinity nan s : ℕ} (f : Format w m sign infinity nan) (e : s ≡ sign) where
+  weight : s + s ≡ 2 ^ (8 * real_octets w)
+  weight = rw e f.has_sign
+
+  pub sign_fits : (0 < s) × (s + s ≤ 2 ^ 64)
+  sign_fits = twice w s weight
+
+  pub real_formed : {n : ℕ} → n ≤ s - 1 + s → ltb n (2 ^ (8 * real_octets w)) ≡ true
+  real_formed {n} h = lt-ltb n _ (rw (← weight) (omega (arith, sign_fits)))
+
+  pub real_unformed : {n : ℕ} → s - 1 + s < n → ltb n (2 ^ (8 * real_octets w)) ≡ false
+  real_unformed {n} h = le-ltb n _ (rw (← weight) (omega (arith, sign_fits)))
 
 -- a form by the greatest number that has it
 module _ {n m : ℕ} where

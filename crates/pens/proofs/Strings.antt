@@ -18,7 +18,8 @@ use Rattle.x696.specs.Leaf.{Leaf, bit_string, leaf_kind, encode_leaf}
 use Rattle.x696.specs.Walk.{Listed, list_at, contents_at, walk_leaf}
 use Rattle.octets.proofs.CountedRuns.{length_run}
 use Rattle.octets.proofs.Stores.{sets_after}
-use Rattle.pens.specs.Flat.{Stored, Headed, text_leaf, text_head, bits_head}
+use Rattle.kinds.specs.Run.{text_leaf}
+use Rattle.pens.specs.Flat.{Stored, Headed, text_head, bits_head}
 use Rattle.std.proofs.Common.{Ok, Err}
 use Rattle.octets.specs.declared.faults.Cause.{Cause}
 use Rattle.octets.specs.declared.faults.Cause.TheVariants.{BadList, NotAllowed}

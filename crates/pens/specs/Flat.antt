@@ -1,6 +1,6 @@
 -- What the writer of one kind without components answers, in the terms of `walk_leaf` and `encode_leaf`, for every node
 -- and every rest of the list: the octets of a number whole, of a string those before its contents. Assumes nothing.
-use Rattle.std.specs.Prelude.{Result, Ok, Err, ◌≡◌, Bool, cond, List, [], ◌∷◌, ◌++◌, ℕ, suc, ◌+◌, ◌≤◌, length, take, drop}
+use Rattle.std.specs.Prelude.{Result, Ok, Err, ◌≡◌, List, [], ◌∷◌, ◌++◌, ℕ, suc, ◌+◌, ◌≤◌, length, take, drop}
 use Rattle.std.proofs.lemmas.List.Edits.{sets}
 use Rattle.x696.specs.Outcome.{refused, got, choose}
 use Rattle.x696.specs.Length.{length_octets}
@@ -8,7 +8,7 @@ use Rattle.x696.specs.Bits.{bit_octets, unused_bits}
 use Rattle.x696.specs.Integer.{Form, fixed_unsigned, fixed_signed, any_unsigned, any_signed}
 use Rattle.x696.specs.String.{fixed_size}
 use Rattle.x696.specs.Value.{node, no_values}
-use Rattle.x696.specs.Leaf.{Leaf, octet_string, visible_string, leaf_kind, encode_leaf}
+use Rattle.x696.specs.Leaf.{Leaf, leaf_kind, encode_leaf}
 use Rattle.x696.specs.Types.{Ty, leaf}
 use Rattle.x696.specs.Walk.{Listed, list_at, walk_leaf}
 use Rattle.octets.specs.Cause.{code_of}
@@ -45,9 +45,6 @@ form_width any_unsigned = 0
 form_width any_signed = 0
 
 -- ---- a string: kinds 7 to 9
-unfoldable pub text_leaf : (visible : Bool) → (flags a b : ℕ) → Leaf
-text_leaf v f a b = cond v (visible_string f a b) (octet_string f a b)
-
 -- what stands before n octets (14), and before n bits (13.3.1, 13.3.2)
 unfoldable pub text_head : (flags a b n : ℕ) → List ℕ
 text_head f a b n = choose (fixed_size f a b) (λ _. []) (λ _. length_octets n)

@@ -13,8 +13,9 @@ use crate::integer::write_integer;
 use crate::listed::write_listed;
 use crate::pen::Pen;
 use crate::plain::{write_boolean, write_null};
-use crate::real::{write_double, write_single};
+use crate::real::write_real;
 use crate::text::begin_text;
+use kinds::real::{Double, Single};
 use octets::faults::{Cause, Fault};
 use octets::words::copy;
 use table::words::{row_bounds, row_count, row_first, row_kind};
@@ -46,10 +47,10 @@ fn write_number(
         );
     }
     if kind == 4 {
-        return write_single(n, to, out);
+        return write_real::<Single>(n, to, out);
     }
     if kind == 5 {
-        return write_double(n, to, out);
+        return write_real::<Double>(n, to, out);
     }
     if kind == 6 {
         return write_null(n, to);

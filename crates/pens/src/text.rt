@@ -1,27 +1,15 @@
 // OCTET STRING (14) and VisibleString (27): the contents are there (11), their size and characters (7), and what stands
 // before them.
-ghost use Rattle.std.specs.Prelude.{◌≡◌, not, ◌||◌, ◌+◌, ◌^◌, ◌<◌, ◌≤◌, length, take, drop};
-ghost use Rattle.x696.specs.String.{visible};
-ghost use Rattle.pens.specs.Flat.{Headed, Stored, text_leaf, text_head};
+ghost use Rattle.std.specs.Prelude.{◌^◌, ◌<◌, ◌≤◌, length};
+ghost use Rattle.kinds.specs.Run.{text_leaf};
+ghost use Rattle.pens.specs.Flat.{Headed, Stored, text_head};
 
 use crate::head::Head;
+use kinds::text::has_characters;
 use octets::faults::Cause;
 use octets::lengths::put_length;
-use octets::strings::is_visible;
 use octets::units::Octets;
 use table::bounds::Bounds;
-
-// Whether the n octets from `used` on are characters of the string's type.
-fn has_characters(shown: bool, contents: &[u8], used: usize, n: usize) -> bool
-    requires { used + n ≤ length contents.now }
-    ensures { result ≡ not shown || visible (take n (drop used contents.now)) }
-{
-    if shown {
-        is_visible(contents, used, n)
-    } else {
-        true
-    }
-}
 
 // Nothing before contents of a fixed size (14.1), else their length determinant (14.2).
 fn put_text_head(bounds: Bounds, n: u64, to: usize, out: &mut [u8]) -> usize

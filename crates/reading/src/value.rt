@@ -310,11 +310,10 @@ fn read_choice(
     let first = table.row_first(row);
     let n = table.row_count(row);
     let g = read_tag(msg, at, at)?;
-    let k = find_tag(table, first, n, g.class, g.number);
     // a tag of the type
-    if n <= k {
+    let Some(k) = find_tag(table, first, n, g.class, g.number) else {
         return Err(Cause::NotAllowed.at(at));
-    }
+    };
     put_node(nodes, count, 12, k as u64);
     let d = read_members(
         table,

@@ -15,33 +15,34 @@ returns-then-step-ne0 c =
     let sound = c.args.table.now.sound.row c.args.row c.requires.0 in
     opened_nowhere (past_choice _ _ _ _ _ _ c.requires.1 sound c.requires.4 _ c.if-step-ne0.true)
 
-pub find_tag-k-requires : goal.find_tag-k-requires
-find_tag-k-requires c =
+pub find_tag-requires : goal.find_tag-requires
+find_tag-requires c =
     let sound = c.args.table.now.sound.row c.args.row c.requires.0 in
     let row = choice_row _ _ _ sound c.requires.4 in (
       omega (arith, row.range, c.row_first-first.ensures, c.row_count-n.ensures),
       rw (c.row_first-first.ensures, c.row_count-n.ensures) row.ascends,
     )
 
-pub returns-then-n-k : goal.returns-then-n-k
-returns-then-n-k c =
+pub returns-in_default : goal.returns-in_default
+returns-in_default c =
     let sound = c.args.table.now.sound.row c.args.row c.requires.0 in
     opened_refused (tag_unknown _ _ _ _ _ _ c.requires.1 sound c.requires.4 c.read_tag.ensures _ _ _ _
     c.in_ok-g.was
-    c.row_first-first.ensures c.row_count-n.ensures c.find_tag-k.ensures.0
-    c.if-n-k.true) c.at.ensures
+    c.row_first-first.ensures c.row_count-n.ensures (c.find_tag.ensures.nowhere c.in_default.is)
+    (omega arith)) c.at.ensures
 
 pub overflow_add-first : goal.overflow_add-first
 overflow_add-first c =
     let sound = c.args.table.now.sound.row c.args.row c.requires.0 in
     let row = choice_row _ _ _ sound c.requires.4 in
-    omega (arith, row.range, c.args.table.now.sound.few_items, c.row_first-first.ensures, c.row_count-n.ensures, c.if-n-k.false)
+    let inside = (c.find_tag.ensures.there _ c.in-Some.is).0 in
+    omega (arith, row.range, c.args.table.now.sound.few_items, c.row_first-first.ensures, c.row_count-n.ensures, inside)
 
 pub alternative_row-requires : goal.alternative_row-requires
 alternative_row-requires c =
     let sound = c.args.table.now.sound.row c.args.row c.requires.0 in
     let row = choice_row _ _ _ sound c.requires.4 in
-    omega (arith, row.range, c.row_first-first.ensures, c.row_count-n.ensures, c.if-n-k.false)
+    omega (arith, row.range, c.row_first-first.ensures, c.row_count-n.ensures, (c.find_tag.ensures.there _ c.in-Some.is).0)
 
 pub returns-in_err-g : goal.returns-in_err-g
 returns-in_err-g c =
@@ -56,6 +57,6 @@ returns c =
     let below = below_known 8 c.args.msg.now (λ i. (c.type_inv.msg i).fits) in
     rw c.if-step-ne0.false (opened_into (choice_leads _ _ _ _ _ _ c.requires.1 sound c.requires.4 _ _ _
     c.read_tag.ensures _ c.in_ok-g.was
-    c.row_first-first.ensures c.row_count-n.ensures c.find_tag-k.ensures.0
-    c.if-n-k.false below _ c.alternative_row.ensures
+    c.row_first-first.ensures c.row_count-n.ensures (c.find_tag.ensures.there _ c.in-Some.is).1
+    (c.find_tag.ensures.there _ c.in-Some.is).0 below _ c.alternative_row.ensures
     refl refl refl refl refl refl))

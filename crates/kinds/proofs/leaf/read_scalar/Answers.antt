@@ -5,6 +5,7 @@ use mathlib.Core.Path.{sym, ◌∙◌}
 use Rattle.kinds.proofs.Simple.{null_goes}
 use Rattle.kinds.proofs.ByKind.{scalar_row, boolean_type, integer_type, listed_type, listed_range, single_type, double_type}
 use Rattle.kinds.proofs.ByKind.{null_kind, null_type}
+use Rattle.x696.specs.Leaf.{real_kind}
 use Rattle.kinds.proofs.leaf.read_scalar.Goals as goal
 
 pub returns-then-kind-eq1 : goal.returns-then-kind-eq1
@@ -35,16 +36,18 @@ returns-then-kind-eq3 c =
     (c.read_listed.ensures n)
 
 pub returns-then-kind-eq4 : goal.returns-then-kind-eq4
+unfolding real_kind
 returns-then-kind-eq4 c =
     λ n.
     scalar_row _ _ _ (single_type _ _ _ c.row_kind-kind.ensures c.if-kind-eq4.true) (sym
-    c.row_kind-kind.ensures ∙ c.if-kind-eq4.true) (c.read_single.ensures n)
+    c.row_kind-kind.ensures ∙ c.if-kind-eq4.true) (c.read_real.ensures n)
 
 pub returns-then-kind-eq5 : goal.returns-then-kind-eq5
+unfolding real_kind
 returns-then-kind-eq5 c =
     λ n.
     scalar_row _ _ _ (double_type _ _ _ c.row_kind-kind.ensures c.if-kind-eq5.true) (sym
-    c.row_kind-kind.ensures ∙ c.if-kind-eq5.true) (c.read_double.ensures n)
+    c.row_kind-kind.ensures ∙ c.if-kind-eq5.true) (c.read_real-then-kind-eq5.ensures n)
 
 pub returns : goal.returns
 returns c =

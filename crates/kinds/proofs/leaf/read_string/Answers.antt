@@ -1,13 +1,7 @@
 -- The answer of `read_string` is the outcome of reading the row's type, by the row's kind.
 -- Assumes nothing.
-use Rattle.kinds.proofs.ByKind.{ran_row, octets_type, bits_type, visible_type}
+use Rattle.kinds.proofs.ByKind.{ran_row, bits_type, text_type}
 use Rattle.kinds.proofs.leaf.read_string.Goals as goal
-
-pub returns-then-kind-eq7 : goal.returns-then-kind-eq7
-returns-then-kind-eq7 c =
-    ran_row _ _ _ (octets_type _ _ _ c.row_kind-kind.ensures c.row_bounds-bounds.ensures.0 c.row_bounds-bounds.ensures.1
-    c.row_bounds-bounds.ensures.2
-    c.if-kind-eq7.true) c.read_octets.ensures
 
 pub returns-then-kind-eq8 : goal.returns-then-kind-eq8
 returns-then-kind-eq8 c =
@@ -17,6 +11,6 @@ returns-then-kind-eq8 c =
 
 pub returns : goal.returns
 returns c =
-    ran_row _ _ _ (visible_type _ _ _ c.row_kind-kind.ensures c.row_bounds-bounds.ensures.0 c.row_bounds-bounds.ensures.1
+    ran_row _ _ _ (text_type _ _ _ c.row_kind-kind.ensures c.row_bounds-bounds.ensures.0 c.row_bounds-bounds.ensures.1
     c.row_bounds-bounds.ensures.2
-    c.requires.1 c.requires.2 c.if-kind-eq7.false c.if-kind-eq8.false) c.read_visible.ensures
+    (rw c.row_kind-kind.ensures c.requires.1) (rw c.row_kind-kind.ensures c.requires.2) c.if-kind-eq8.false) c.read_text.ensures

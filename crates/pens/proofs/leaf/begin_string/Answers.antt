@@ -1,6 +1,7 @@
 -- The answer of the writer of the row's kind, of those with contents. Assumes nothing.
-use Rattle.kinds.proofs.ByKind.{bits_type}
-use Rattle.pens.proofs.ByRow.{headed_row, text_type}
+use Rattle.std.proofs.Common.{arith}
+use Rattle.kinds.proofs.ByKind.{bits_type, text_type}
+use Rattle.pens.proofs.ByRow.{headed_row}
 use Rattle.pens.proofs.leaf.begin_string.Goals as goal
 
 pub returns-then-kind-eq8 : goal.returns-then-kind-eq8
@@ -16,6 +17,6 @@ returns c =
     headed_row (text_type _ _ _ c.requires.1
     c.row_bounds-bounds.ensures.0
     c.row_bounds-bounds.ensures.1
-    c.row_bounds-bounds.ensures.2 c.requires.2
+    c.row_bounds-bounds.ensures.2 (omega (arith, c.requires.2))
     c.requires.3
     c.if-kind-eq8.false) c.begin_text.ensures

@@ -27,12 +27,12 @@ returns-then-kind-eq3 c =
 pub returns-then-kind-eq4 : goal.returns-then-kind-eq4
 returns-then-kind-eq4 c =
     numbered_row (single_type _ _ _ c.requires.2 c.if-kind-eq4.true)
-    c.write_single.ensures
+    c.write_real.ensures
 
 pub returns-then-kind-eq5 : goal.returns-then-kind-eq5
 returns-then-kind-eq5 c =
     numbered_row (double_type _ _ _ c.requires.2
-    c.if-kind-eq5.true) c.write_double.ensures
+    c.if-kind-eq5.true) c.write_real-then-kind-eq5.ensures
 
 pub returns-then-kind-eq6 : goal.returns-then-kind-eq6
 returns-then-kind-eq6 c = numbered_row (null_type _ _ _ c.requires.2 c.if-kind-eq6.true) (c.write_null.ensures _)

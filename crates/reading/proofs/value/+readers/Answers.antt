@@ -23,32 +23,33 @@ use Rattle.reading.proofs.Sequences
 use borrow.Author.Rules.{rules}
 use Rattle.reading.proofs.value.+readers.Goals as goal
 
-pub read_choice-find_tag-k-requires : goal.read_choice-find_tag-k-requires
-read_choice-find_tag-k-requires t c =
+pub read_choice-find_tag-requires : goal.read_choice-find_tag-requires
+read_choice-find_tag-requires t c =
     let sound = c.args.table.now.sound.row c.args.row c.requires.0 in
     let row = choice_row _ _ _ sound c.requires.4 in (
       omega (arith, row.range, c.row_first-first.ensures, c.row_count-n.ensures),
       λ i j h g. rw c.row_first-first.ensures (row.ascends i j h (rw (← c.row_count-n.ensures) g)),
     )
 
-pub read_choice-returns-then-n-k : goal.read_choice-returns-then-n-k
-read_choice-returns-then-n-k t c =
+pub read_choice-returns-in_default : goal.read_choice-returns-in_default
+read_choice-returns-in_default t c =
     let sound = c.args.table.now.sound.row c.args.row c.requires.0 in
     Ran.ran_refused (Alternatives.tag_unknown _ _ _ _ _ _ c.requires.1 sound c.requires.4
     c.read_tag.ensures _ _ _ _ c.in_ok-g.was c.row_first-first.ensures c.row_count-n.ensures
-    c.find_tag-k.ensures.0 c.if-n-k.true) c.at.ensures
+    (c.find_tag.ensures.nowhere c.in_default.is) (omega arith)) c.at.ensures
 
 pub read_choice-overflow_add-first : goal.read_choice-overflow_add-first
 read_choice-overflow_add-first t c =
     let sound = c.args.table.now.sound.row c.args.row c.requires.0 in
     let row = choice_row _ _ _ sound c.requires.4 in
-    omega (arith, row.range, c.args.table.now.sound.few_items, c.row_first-first.ensures, c.row_count-n.ensures)
+    let inside = (c.find_tag.ensures.there _ c.in-Some.is).0 in
+    omega (arith, row.range, c.args.table.now.sound.few_items, c.row_first-first.ensures, c.row_count-n.ensures, inside)
 
 pub read_choice-alternative_row-requires : goal.read_choice-alternative_row-requires
 read_choice-alternative_row-requires t c =
     let sound = c.args.table.now.sound.row c.args.row c.requires.0 in
     let row = choice_row _ _ _ sound c.requires.4 in
-    omega (arith, row.range, c.row_first-first.ensures, c.row_count-n.ensures, c.if-n-k.false)
+    omega (arith, row.range, c.row_first-first.ensures, c.row_count-n.ensures, (c.find_tag.ensures.there _ c.in-Some.is).0)
 
 pub read_choice-read_members-requires : goal.read_choice-read_members-requires
 read_choice-read_members-requires t c =
@@ -56,7 +57,7 @@ read_choice-read_members-requires t c =
     let row = choice_row _ _ _ sound c.requires.4 in
     let y = c.read_tag.ensures.went _ c.in_ok-g.was in
     let lt : c.alternative_row.result < c.args.row = rw (c.alternative_row.ensures, c.row_first-first.ensures)
-    (row.alternative c.find_tag-k.result (rw (← c.row_count-n.ensures) c.if-n-k.false)).lower in (
+    (row.alternative c.in-Some.k (rw (← c.row_count-n.ensures) (c.find_tag.ensures.there _ c.in-Some.is).0)).lower in (
       omega arith,
       (
         omega (arith, c.requires.0),
@@ -82,8 +83,8 @@ read_choice-returns-in_err-d t c =
     let one = Chains.alone_ran _ (Laws.alone_members _ _ _ _ _ _ _) c.read_members.ensures in
     Ran.ran_fault _ (Alternatives.chosen_stops _ _ _ _ _ _ c.requires.1 sound c.requires.4
     c.read_tag.ensures _ _ _ _ c.in_ok-g.was c.row_first-first.ensures c.row_count-n.ensures
-    c.find_tag-k.ensures.0
-    c.if-n-k.false c.alternative_row.ensures (one.stopped _ c.in_err-d.was)))
+    (c.find_tag.ensures.there _ c.in-Some.is).1
+    (c.find_tag.ensures.there _ c.in-Some.is).0 c.alternative_row.ensures (one.stopped _ c.in_err-d.was)))
 
 pub read_choice-returns : goal.read_choice-returns
 read_choice-returns t c =
@@ -91,8 +92,8 @@ read_choice-returns t c =
     let one = Chains.alone_ran _ (Laws.alone_members _ _ _ _ _ _ _) c.read_members.ensures in
     Alternatives.chosen_goes _ _ _ _ _ _ c.requires.1 sound c.requires.4
     c.read_tag.ensures _ _ _ _ c.in_ok-g.was c.row_first-first.ensures c.row_count-n.ensures
-    c.find_tag-k.ensures.0
-    c.if-n-k.false c.alternative_row.ensures _ c.put_node.ensures (one.went _ c.in_ok-d.was)
+    (c.find_tag.ensures.there _ c.in-Some.is).1
+    (c.find_tag.ensures.there _ c.in-Some.is).0 c.alternative_row.ensures _ c.put_node.ensures (one.went _ c.in_ok-d.was)
     refl
 
 pub read_member-is_missing-requires : goal.read_member-is_missing-requires
