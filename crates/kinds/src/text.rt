@@ -12,6 +12,7 @@ use octets::nodes::put_node;
 use octets::strings::is_visible;
 use octets::words::copy;
 use table::bounds::Bounds;
+use table::kind::Kind;
 
 // The contents: alone where the size is fixed (14.1), else behind a length determinant (14.2).
 fn run_of(bounds: Bounds, msg: &[u8], at: usize) -> Result<Piece, Fault>
@@ -42,7 +43,7 @@ pub fn read_octets(
     if !bounds.allows_size(n) {
         return Err(Cause::NotAllowed.at(at));
     }
-    put_node(nodes, count, 7, n);
+    put_node(nodes, count, Kind::OctetString.number(), n);
     copy(msg, run.start, n as usize, contents, used);
     Ok(Cursor {
         at: run.start + n as usize,
@@ -72,7 +73,7 @@ pub fn read_visible(
     if !is_visible(msg, run.start, n as usize) {
         return Err(Cause::NotAllowed.at(at));
     }
-    put_node(nodes, count, 9, n);
+    put_node(nodes, count, Kind::VisibleString.number(), n);
     copy(msg, run.start, n as usize, contents, used);
     Ok(Cursor {
         at: run.start + n as usize,

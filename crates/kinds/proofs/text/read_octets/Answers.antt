@@ -46,5 +46,5 @@ returns c =
     c.run_of.ensures _
     c.in_ok-run.was c.allows_size.ensures
     c.if-not-allows_size.false (any_octets_lem _) refl
-    c.put_node.ensures
+    (rw c.number.ensures at c.put_node.ensures)
     c.copy.ensures refl

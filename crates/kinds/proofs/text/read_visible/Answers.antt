@@ -60,5 +60,5 @@ returns c =
     _ c.in_ok-run.was
     c.allows_size.ensures c.if-not-allows_size.false
     c.is_visible.ensures c.if-not-is_visible.false
-    c.put_node.ensures
+    (rw c.number.ensures at c.put_node.ensures)
     c.copy.ensures refl
