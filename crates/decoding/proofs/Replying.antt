@@ -14,7 +14,7 @@ use Rattle.x696.specs.Value.{Val, node_width, size, nodes, contents}
 use Rattle.x696.proofs.ListLaws.{nodes_length}
 use Rattle.x696.specs.Types.{Ty}
 use Rattle.x696.specs.Read.{Message, message, read}
-use Rattle.x696.specs.Reply.{Answer, refusal, done, refusal_reply, done_reply, then, answer, unless, in_part}
+use Rattle.x696.specs.Reply.{Answer, refusal, done, done_reply, then, answer, unless, in_part}
 use Rattle.x696.specs.Table.{row_width, type_of}
 use Rattle.x696.specs.TableFault.{TableFault as Meant, sound, bad_size, bad_row, table_fault}
 use Rattle.x696.specs.Operations.{node_limit, octet_limit, usable, asked, read_message, value_in, validate, over, Decoded}
@@ -28,10 +28,8 @@ use Rattle.table.specs.declared.check.TableFault.{TableFault}
 use Rattle.table.specs.declared.check.TableFault.TheVariants.{Size, Row}
 use Rattle.std.specs.Prelude.{Result, Ok, Err}
 use Rattle.octets.specs.Cause.{code_of}
-use Rattle.octets.specs.Part.{part_of, refused as refusing}
-use Rattle.octets.specs.declared.faults.Cause.{Cause}
+use Rattle.octets.specs.Part.{refused as refusing}
 use Rattle.octets.specs.declared.faults.Cause.TheVariants.{UnknownType, Room}
-use Rattle.octets.specs.declared.faults.Part.{Part}
 use Rattle.octets.specs.declared.faults.Part.TheVariants.{Table as TablePart, Result as ResultPart}
 use Rattle.octets.specs.declared.faults.Refusal.{Refusal}
 use Rattle.octets.specs.declared.faults.Fault.{Fault}

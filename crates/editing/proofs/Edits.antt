@@ -14,26 +14,23 @@ use Rattle.x696.specs.Encode.{encode}
 use Rattle.x696.specs.Path.{replace, octets_before}
 use Rattle.x696.proofs.PathLaws.{size_replaced}
 use Rattle.x696.proofs.Locality.{length_replaced}
-use Rattle.x696.specs.Reply.{Answer, refusal_reply, done_reply, then, answer, unless, in_part}
+use Rattle.x696.specs.Reply.{Answer, then, answer, unless, in_part}
 use Rattle.x696.specs.Table.{type_of}
 use Rattle.x696.proofs.TableLaws.{sound_table}
 use Rattle.x696.proofs.TableTypes.{well_formed}
 use Rattle.x696.specs.Operations.{node_limit, octet_limit, walk_list, result_fits, room_for, over, Written, written}
 use Rattle.x696.specs.Editing.{Place, place_in, edited, edited_octets, edit}
-use Rattle.table.specs.Replies.{as_reply}
-use Rattle.table.specs.declared.reply.Reply.{Reply}
 use Rattle.decoding.specs.Replied.{Refuses}
 use Rattle.finding.specs.Placing.{Placed}
 use Rattle.finding.specs.declared.spot.Spot.{Spot}
 use Rattle.finding.specs.declared.spot.Way.{Way}
-use Rattle.encoding.specs.Measures.{Accepted, Writes, Puts}
+use Rattle.encoding.specs.Measures.{Accepted, Puts}
 use Rattle.editing.specs.Splicing.{Spliced}
-use Rattle.std.proofs.Common.{Result, Ok, Err}
+use Rattle.std.proofs.Common.{Ok, Err}
 use Rattle.octets.specs.declared.faults.Refusal.{Refusal}
 use Rattle.octets.specs.Part.{refused as refusing}
 use Rattle.octets.specs.declared.faults.Cause.TheVariants.{Nodes, Long, Room}
 use Rattle.octets.specs.declared.faults.Part.TheVariants.{Result as ResultPart}
-use Rattle.table.specs.Replies.{refused_reply}
 use Rattle.editing.proofs.Held.{start_is, number_is, spliced_is, bit_inside, finds, nodes_held}
 
 -- ---- the replies
@@ -156,11 +153,3 @@ module _ (rows items : List ℕ) (row : ℕ) (msg path ws cs out : List ℕ) whe
                   le-leb (length (encode t new)) octet_limit (rw octets_is short),
                   le-leb (length (encode t new)) (length out) (rw octets_is room),
                 ) (record { reply = rw octets_is refl; stored = laid p })
-
--- ---- the reply
-module _ {w : Written} {out : List ℕ} {q : Reply} where
-  pub reply_refuses : {x : Refusal} → Puts w out (Err x) → q ≡ refused_reply x → Writes w out q
-  reply_refuses p e = record { reply = e ∙ ap as_reply p.reply; stored = p.stored }
-
-  pub reply_done : {n : ℕ} → Puts w out (Ok n) → q ≡ as_reply (done_reply 0 n) → Writes w out q
-  reply_done p e = record { reply = e ∙ ap as_reply p.reply; stored = p.stored }

@@ -9,6 +9,7 @@ use encoding::lists::survey_list;
 use finding::places::find_in;
 use octets::faults::{Cause, Part, Refusal};
 use table::reply::{Reply, done};
+use table::sound::Table;
 
 // The octets of the new message, put at the front of the lent buffer; or the refusal, with nothing put.
 fn put_edited(
@@ -25,7 +26,8 @@ fn put_edited(
 {
     let w = find_in(rows, items, row, msg, path)?;
     let s = w.spot;
-    let n = survey_list(rows, items, s.row, s.mark, s.given, nodes, contents)?;
+    let table = Table { rows, items };
+    let n = survey_list(&table, s.row, s.mark, s.given, nodes, contents)?;
     let many = 4096 < w.count - s.nodes + nodes.len() / 2;
     if many {
         return Err(Cause::Nodes.at(0).in_part(Part::Result));
@@ -41,7 +43,7 @@ fn put_edited(
     if lacks {
         return Err(Cause::Room.at(0).in_part(Part::Result));
     }
-    splice(rows, items, s, nodes, contents, n, msg, out);
+    splice(&table, s, nodes, contents, n, msg, out);
     Ok(octets)
 }
 

@@ -2,7 +2,6 @@
 ghost use Rattle.std.specs.Prelude.{◌≡◌, Bool, true, not, cond, ℕ, ◌+◌, ◌-◌, ◌/◌, ◌^◌, ◌<◌, ◌≤◌, eqb, length};
 ghost use Rattle.x696.specs.Table.{row_width, row_kind, type_of};
 ghost use Rattle.x696.specs.TableCheck.{default_sound};
-ghost use Rattle.x696.specs.SoundTable.{SoundTable};
 ghost use Rattle.octets.specs.Presence.{set_bit};
 ghost use Rattle.writing.specs.Noted.{missing_at};
 ghost use Rattle.editing.specs.Splicing.{Spliced};
@@ -10,26 +9,25 @@ ghost use Rattle.editing.specs.Splicing.{Spliced};
 use finding::spot::Spot;
 use octets::presence::put_presence;
 use octets::words::copy;
-use table::words::row_kind;
+use table::sound::Table;
 use writing::parts::is_missing;
 use writing::value::write_component;
 
 // A component that equals its missing value is not carried: an edit back to the DEFAULT clears the bit (31.9).
-fn put_mark(rows: &[u64], s: Spot, nodes: &[u64], out: &mut [u8])
-    requires { (s.row < length rows.now / row_width) × ((s.mark ≡ 0 → ⊥) → s.pre < 2 ^ 48) × (s.bit < 1024) }
-    ensures { out.new ≡ cond (eqb s.mark 0) out.old (set_bit out.old s.pre s.bit (not (missing_at nodes.now 0 (row_kind rows.now s.row) s.mark s.given))) }
+fn put_mark(table: &Table, s: Spot, nodes: &[u64], out: &mut [u8])
+    requires { (s.row < length table.now.rows.now / row_width) × ((s.mark ≡ 0 → ⊥) → s.pre < 2 ^ 48) × (s.bit < 1024) }
+    ensures { out.new ≡ cond (eqb s.mark 0) out.old (set_bit out.old s.pre s.bit (not (missing_at nodes.now 0 (row_kind table.now.rows.now s.row) s.mark s.given))) }
 {
     if s.mark == 0 {
         return;
     }
-    let missing = is_missing(nodes, 0, row_kind(rows, s.row), s.mark, s.given);
+    let missing = is_missing(nodes, 0, table.row_kind(s.row), s.mark, s.given);
     put_presence(out, s.pre, s.bit, !missing);
 }
 
 // Writes the new message at the front of the lent buffer; n is the number of the component's new own octets.
 pub fn splice(
-    rows: &[u64],
-    items: &[u64],
+    table: &Table,
     s: Spot,
     nodes: &[u64],
     contents: &[u8],
@@ -37,15 +35,15 @@ pub fn splice(
     msg: &[u8],
     out: &mut [u8],
 )
-    requires { SoundTable rows.now items.now × (s.row < length rows.now / row_width) × ((1 < s.mark) → default_sound (type_of rows.now items.now s.row) s.given ≡ true) × (length nodes.now ≤ 8192) × (length contents.now ≤ 65535) × (length msg.now ≤ 65535) × (s.start ≤ length msg.now) × (s.end ≤ length msg.now) × (n ≤ 65535) × ((s.mark ≡ 0 → ⊥) → s.pre < 2 ^ 48) × (s.bit < 1024) }
-    ensures { Spliced (type_of rows.now items.now s.row) s nodes.now contents.now n msg.now out.old out.new }
+    requires { (s.row < length table.now.rows.now / row_width) × ((1 < s.mark) → default_sound (type_of table.now.rows.now table.now.items.now s.row) s.given ≡ true) × (length nodes.now ≤ 8192) × (length contents.now ≤ 65535) × (length msg.now ≤ 65535) × (s.start ≤ length msg.now) × (s.end ≤ length msg.now) × (n ≤ 65535) × ((s.mark ≡ 0 → ⊥) → s.pre < 2 ^ 48) × (s.bit < 1024) }
+    ensures { Spliced (type_of table.now.rows.now table.now.items.now s.row) s nodes.now contents.now n msg.now out.old out.new }
 {
     let start = s.start;
     let end = s.end;
     copy(msg, 0, start, out, 0);
     let _new = write_component(
-        rows, items, s.row, s.mark, s.given, nodes, contents, 0, 0, start, out,
+        table, s.row, s.mark, s.given, nodes, contents, 0, 0, start, out,
     );
     copy(msg, end, msg.len() - end, out, start + n);
-    put_mark(rows, s, nodes, out);
+    put_mark(table, s, nodes, out);
 }

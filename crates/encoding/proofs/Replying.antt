@@ -15,25 +15,24 @@ use Rattle.x696.specs.Value.{Val, node_width}
 use Rattle.x696.specs.Types.{Ty}
 use Rattle.x696.specs.Encode.{encode, own_octets}
 use Rattle.x696.specs.Walk.{Listed, list_at, walk, walk_component}
-use Rattle.x696.specs.Reply.{Answer, refusal, done, refusal_reply, done_reply, then, answer, unless, in_part}
-use Rattle.x696.specs.Table.{row_width, type_of}
-use Rattle.x696.specs.TableFault.{sound, table_fault}
-use Rattle.x696.specs.Operations.{node_limit, octet_limit, asked, walk_list, result_fits, room_for, over, octets_for, measure, written}
+use Rattle.x696.specs.Reply.{Answer, done, done_reply, then, answer, unless, in_part}
+use Rattle.x696.specs.Table.{type_of}
+use Rattle.x696.specs.Operations.{node_limit, octet_limit, asked, walk_list, result_fits, room_for, over, octets_for, measure, written, Written}
 use Rattle.x696.specs.Operations.{encode_list}
 use Rattle.table.specs.Replies.{as_reply, as_answer, refused_reply}
 use Rattle.table.specs.declared.reply.Reply.{Reply}
 use Rattle.octets.proofs.Answered.{next_refused, next_got}
-use Rattle.octets.specs.Part.{part_of, refused as refusing}
+use Rattle.octets.specs.Part.{refused as refusing}
 use Rattle.octets.specs.declared.faults.Cause.{Cause}
 use Rattle.octets.specs.declared.faults.Cause.TheVariants.{Long, Room}
-use Rattle.octets.specs.declared.faults.Part.{Part}
 use Rattle.octets.specs.declared.faults.Part.TheVariants.{List as ListPart, Result as ResultPart}
 use Rattle.octets.specs.declared.faults.Refusal.{Refusal}
 use Rattle.octets.specs.declared.faults.Fault.{Fault}
-use Rattle.decoding.specs.Replied.{Refuses}
+use Rattle.decoding.specs.Replied.{Refuses, AskedAnswer}
 use Rattle.pens.specs.Put.{listed_at, Penned, Put}
 use Rattle.pens.specs.declared.pen.Pen.{Pen}
-use Rattle.encoding.specs.Measures.{Accepted, ListAnswer, Fitting, OctetsAnswer, Writes}
+use Rattle.encoding.specs.Measures.{Accepted, ListAnswer, Fitting, OctetsIn, OctetsAnswer, Puts, Writes}
+use Rattle.table.specs.declared.sound.Table.{Table}
 use Rattle.writing.proofs.Missing.{plain_walk, plain_octets}
 use Rattle.std.proofs.Common.{Result, Ok, Err}
 use Rattle.octets.specs.Cause.{code_of}
@@ -140,53 +139,68 @@ module _ (m : ℕ) (t : Ty) (ws cs : List ℕ) where
                   stopped = λ y z. zero_one cc;
                 }
 
+-- ---- the octets of a row's type
+module _ (t : Ty) (ws cs : List ℕ) where
+  abbrev comes : Answer (List ℕ)
+  comes = then (in_part 2 (walk_list 0 t ws cs)) λ v. result_fits (encode t v)
+
+  in_refused : {x : Refusal} → comes ≡ as_answer x → OctetsIn t ws cs (Err x)
+  in_refused e = record { went = λ n z. zero_one cc; stopped = λ y z. refuses_as e z }
+
+  pub in_list : {x : Refusal} → Refuses (in_part 2 (walk_list 0 t ws cs)) x → OctetsIn t ws cs (Err x)
+  unfolding then
+  in_list r = in_refused (rw r.is)
+
+  module _ {n : ℕ} (g : Accepted 0 0 t ws cs n) where
+    count_is : n ≡ length (encode t g.what)
+    count_is = g.octets ∙ ap length (plain_octets 0 t 0 g.what refl)
+
+    pub listed_is : comes ≡ result_fits (encode t g.what)
+    unfolding then in_part
+    listed_is = rw g.whole
+
+    pub in_long : {x : Refusal} → 65535 < n → x ≡ refusing Long ResultPart 0 → OctetsIn t ws cs (Err x)
+    unfolding result_fits unless
+    in_long h e =
+        rw e (in_refused
+        (listed_is ∙ rw (lt-leb (length (encode t g.what)) octet_limit (rw (← count_is) h))))
+
+    pub fits_is : n ≤ octet_limit → comes ≡ done (encode t g.what)
+    unfolding result_fits unless
+    fits_is h = listed_is ∙ rw (le-leb (length (encode t g.what)) octet_limit (rw (← count_is) h))
+
+    pub in_got : n ≤ 65535 → OctetsIn t ws cs (Ok n)
+    in_got h = record {
+      went = λ k z. let w : n ≡ k = cc in rw (← w) (g, h);
+      stopped = λ y z. zero_one cc;
+    }
+
 -- ---- the octets for a row that is asked for
 module _ (rows items : List ℕ) (row : ℕ) (ws cs : List ℕ) where
   abbrev T : Ty
   T = type_of rows items row
 
-  octets_refused : {x : Refusal} → octets_for rows items row ws cs ≡ as_answer x
-      → OctetsAnswer rows items row ws cs (Err x)
-  octets_refused e = record { went = λ n z. zero_one cc; stopped = λ y z. refuses_as e z }
-
   pub octets_table : {x : Refusal} → Refuses (asked rows items row) x → OctetsAnswer rows items row ws cs (Err x)
   unfolding octets_for then
-  octets_table r = octets_refused (rw r.is)
+  octets_table r = record { went = λ n z. zero_one cc; stopped = λ y z. refuses_as (rw r.is) z }
 
-  module _ (ready : (table_fault rows items ≡ sound) × (row < length rows / row_width) × (asked rows items row ≡ done
-      T)) where
-    pub octets_list : {x : Refusal} → Refuses (in_part 2 (walk_list 0 T ws cs)) x → OctetsAnswer rows items row ws cs
-        (Err x)
-    unfolding octets_for then
-    octets_list r = octets_refused (rw (ready.2, r.is))
-
-    module _ {n : ℕ} (g : Accepted 0 0 T ws cs n) where
-      count_is : n ≡ length (encode T g.what)
-      count_is = g.octets ∙ ap length (plain_octets 0 T 0 g.what refl)
-
-      listed_is : octets_for rows items row ws cs ≡ result_fits (encode T g.what)
-      unfolding octets_for then in_part
-      listed_is = rw (ready.2, g.whole)
-
-      pub octets_long : {x : Refusal} → 65535 < n → x ≡ refusing Long ResultPart 0 → OctetsAnswer rows items row ws
-          cs (Err x)
-      unfolding result_fits unless
-      octets_long h e =
-          rw e (octets_refused
-          (listed_is ∙ rw (lt-leb (length (encode T g.what)) octet_limit (rw (← count_is) h))))
-
-      pub octets_got : n ≤ 65535 → OctetsAnswer rows items row ws cs (Ok n)
-      unfolding result_fits unless
-      octets_got h = record {
-        went = λ k z.
-            let w : n ≡ k = cc in
-            rw (← w) (record {
-              fault = ready.0;
-              inside = ready.1;
-              list = g;
-              is = listed_is ∙ rw (le-leb (length (encode T g.what)) octet_limit (rw (← count_is) h));
-            });
-        stopped = λ y z. zero_one cc;
+  pub octets_by : {t : Table} {r : Result Table Refusal} → AskedAnswer rows items row r → r ≡ Ok t
+      → {q : Result ℕ Refusal} → OctetsIn (type_of t.rows.now t.items.now row) ws cs q
+      → OctetsAnswer rows items row ws cs q
+  unfolding octets_for then
+  octets_by {t} a e {q} w =
+      let h = a.ready t e in
+      let v : OctetsIn T ws cs q = rw (h.0, h.1) at w in
+      record {
+        went = λ n z.
+            let g = v.went n z in
+            record {
+              fault = h.2;
+              inside = h.3;
+              list = g.0;
+              is = rw h.4 (fits_is T ws cs g.0 g.1);
+            };
+        stopped = λ x z. record { is = rw h.4 (v.stopped x z).is };
       }
 
   -- ---- the replies
@@ -204,23 +218,23 @@ module _ (rows items : List ℕ) (row : ℕ) (ws cs : List ℕ) where
     measure_done e = e ∙ rw (g.is, fitting_count)
 
     module _ (out : List ℕ) where
-      pub encode_room : length out < n → {x : Refusal} {q : Reply} → x ≡ refusing Room ResultPart 0
-          → q ≡ refused_reply x → Writes (encode_list rows items row ws cs out) out q
+      pub encode_room : length out < n → {x : Refusal} → x ≡ refusing Room ResultPart 0
+          → Puts (encode_list rows items row ws cs out) out (Err x)
       unfolding encode_list written then room_for unless answer
-      encode_room h e k =
+      encode_room h e =
           rw (g.is, lt-leb (length (encode T g.list.what)) (length out) (rw (← fitting_count) h))
-          (record { reply = k ∙ rw e; stored = refl })
+          (record { reply = rw e refl; stored = refl })
 
       -- written again with the buffer lent: the octets stand at its front
       pub encode_done : n ≤ length out → {out' : List ℕ} (r : Result Pen Fault)
           → Put ws cs (walk T (listed_at ws cs 0 0)) (λ v. encode T v) 0 0 0 out out' r
-          → {x : Reply} → x ≡ as_reply (done_reply 0 n) → Writes (encode_list rows items row ws cs out) out' x
+          → Puts (encode_list rows items row ws cs out) out' (Ok n)
       unfolding encode_list written then room_for unless answer over
-      encode_done h (Err f) w e =
+      encode_done h (Err f) w =
           let z : got g.list.what g.list.end ≡ refused (code_of f.cause) f.place =
           sym g.list.walks ∙ plain_walk 0 T 0 (list_at ws cs 0) refl ∙ w.stopped f refl in
           zero_one cc
-      encode_done h (Ok d) w e =
+      encode_done h (Ok d) w =
           let k = w.went d refl in
           let q : got g.list.what g.list.end ≡ got k.what (listed_at ws cs d.at d.used) =
           sym g.list.walks ∙ plain_walk 0 T 0 (list_at ws cs 0) refl ∙ k.walks in
@@ -228,11 +242,19 @@ module _ (rows items : List ℕ) (row : ℕ) (ws cs : List ℕ) where
           let room : length (encode T g.list.what) ≤ length out = rw (← fitting_count) h in
           rw (g.is, le-leb (length (encode T g.list.what)) (length out) room)
           (record {
-            reply = e ∙ rw fitting_count;
+            reply = rw fitting_count refl;
             stored = k.stored ∙ rw v (sets_whole (encode T g.list.what) out room);
           })
 
-  pub encode_stop : {x : Refusal} {q : Reply} → Refuses (octets_for rows items row ws cs) x → q ≡ refused_reply x
-      → (out : List ℕ) → Writes (encode_list rows items row ws cs out) out q
+  pub encode_stop : {x : Refusal} → Refuses (octets_for rows items row ws cs) x → (out : List ℕ)
+      → Puts (encode_list rows items row ws cs out) out (Err x)
   unfolding encode_list written then answer
-  encode_stop r e out = rw r.is (record { reply = e; stored = refl })
+  encode_stop r out = rw r.is (record { reply = refl; stored = refl })
+
+-- ---- the reply of what was put, or of the refusal
+module _ {w : Written} {out : List ℕ} {q : Reply} where
+  pub reply_refuses : {x : Refusal} → Puts w out (Err x) → q ≡ refused_reply x → Writes w out q
+  reply_refuses p e = record { reply = e ∙ ap as_reply p.reply; stored = p.stored }
+
+  pub reply_done : {n : ℕ} → Puts w out (Ok n) → q ≡ as_reply (done_reply 0 n) → Writes w out q
+  reply_done p e = record { reply = e ∙ ap as_reply p.reply; stored = p.stored }

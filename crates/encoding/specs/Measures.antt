@@ -7,12 +7,12 @@ use Rattle.x696.specs.Value.{Val, node_width}
 use Rattle.x696.specs.Types.{Ty}
 use Rattle.x696.specs.Encode.{encode, own_octets}
 use Rattle.x696.specs.Walk.{Listed, list_at, walk_component}
-use Rattle.x696.specs.Reply.{Reply as Meant, done, refusal_reply, done_reply, in_part}
+use Rattle.x696.specs.Reply.{Reply as Meant, done, refusal_reply, done_reply, then, in_part}
 use Rattle.octets.specs.Cause.{code_of}
 use Rattle.octets.specs.Part.{part_of}
 use Rattle.x696.specs.Table.{row_width, type_of}
 use Rattle.x696.specs.TableFault.{sound, table_fault}
-use Rattle.x696.specs.Operations.{node_limit, octet_limit, walk_list, octets_for, Written}
+use Rattle.x696.specs.Operations.{node_limit, octet_limit, walk_list, result_fits, octets_for, Written}
 use Rattle.table.specs.Replies.{as_reply}
 use Rattle.table.specs.declared.reply.Reply.{Reply}
 use Rattle.octets.specs.declared.faults.Refusal.{Refusal}
@@ -31,6 +31,11 @@ pub record Accepted (mark default : ℕ) (t : Ty) (ws cs : List ℕ) (n : ℕ) :
 pub record ListAnswer (mark default : ℕ) (t : Ty) (ws cs : List ℕ) (r : Result ℕ Refusal) : Type 0 where
   pub went : (n : ℕ) → r ≡ Ok n → Accepted mark default t ws cs n
   pub stopped : (x : Refusal) → r ≡ Err x → Refuses (in_part 2 (walk_list mark t ws cs)) x
+
+-- a list that is accepted, and comes to a result that is not too long; or 4 of the result
+pub record OctetsIn (t : Ty) (ws cs : List ℕ) (r : Result ℕ Refusal) : Type 0 where
+  pub went : (n : ℕ) → r ≡ Ok n → Accepted 0 0 t ws cs n × (n ≤ octet_limit)
+  pub stopped : (x : Refusal) → r ≡ Err x → Refuses (then (in_part 2 (walk_list 0 t ws cs)) λ v. result_fits (encode t v)) x
 
 -- the same for a row that is asked for, and a result that is not too long
 pub record Fitting (rows items : List ℕ) (row : ℕ) (ws cs : List ℕ) (n : ℕ) : Type 0 where

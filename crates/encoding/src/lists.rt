@@ -2,24 +2,23 @@
 ghost use Rattle.std.specs.Prelude.{◌≡◌, true, ◌/◌, ◌<◌, length};
 ghost use Rattle.x696.specs.Table.{row_width, type_of};
 ghost use Rattle.x696.specs.TableCheck.{default_sound};
-ghost use Rattle.x696.specs.SoundTable.{SoundTable};
 ghost use Rattle.encoding.specs.Measures.{ListAnswer};
 
 use octets::faults::{Cause, Part, Refusal};
+use table::sound::Table;
 use writing::value::write_component;
 
 // A list for a component with its mark and default: an odd word 11, 10, 4, the walk, left over nodes 11, left over contents 11.
 pub fn survey_list(
-    rows: &[u64],
-    items: &[u64],
+    table: &Table,
     row: usize,
     mark: u64,
     default: u64,
     nodes: &[u64],
     contents: &[u8],
 ) -> Result<usize, Refusal>
-    requires { SoundTable rows.now items.now × (row < length rows.now / row_width) × ((1 < mark) → default_sound (type_of rows.now items.now row) «default» ≡ true) }
-    ensures { ListAnswer mark «default» (type_of rows.now items.now row) nodes.now contents.now result }
+    requires { (row < length table.now.rows.now / row_width) × ((1 < mark) → default_sound (type_of table.now.rows.now table.now.items.now row) «default» ≡ true) }
+    ensures { ListAnswer mark «default» (type_of table.now.rows.now table.now.items.now row) nodes.now contents.now result }
 {
     let count = nodes.len() / 2;
     if nodes.len() % 2 != 0 {
@@ -34,8 +33,7 @@ pub fn survey_list(
     }
     let mut out = [0u8; 1];
     match write_component(
-        rows,
-        items,
+        table,
         row,
         mark,
         default,

@@ -23,7 +23,7 @@ use Rattle.finding.specs.Leading.{behind_of, Leads}
 use Rattle.finding.specs.Following.{preamble_from, bit_from, Spotted, followed, Childless, Loses, Goes, Follows}
 use Rattle.finding.specs.declared.spot.Opening.{Opening}
 use Rattle.finding.specs.declared.spot.Spot.{Spot}
-use Rattle.std.proofs.Common.{Result, Ok, Err}
+use Rattle.std.proofs.Common.{Ok, Err}
 use Rattle.finding.specs.declared.spot.Followed.{Followed}
 use Rattle.octets.specs.Cause.{code_of}
 

@@ -15,13 +15,11 @@ use Rattle.x696.specs.Read.{Message, message, component_by, read, read_component
 use Rattle.x696.proofs.Sound.{sound}
 use Rattle.x696.specs.Path.{nowhere, find_from, find, octets_before}
 use Rattle.x696.proofs.Locality.{own_stands}
-use Rattle.x696.specs.Reply.{Answer, refusal, done, refusal_reply, then, in_part}
+use Rattle.x696.specs.Reply.{Answer, refusal, done, then, in_part}
 use Rattle.x696.specs.Table.{row_width, type_of}
 use Rattle.x696.specs.SoundTable.{SoundTable}
 use Rattle.x696.specs.Operations.{node_limit, octet_limit, asked, read_message}
 use Rattle.x696.specs.Editing.{Place, place_of, place_in}
-use Rattle.table.specs.Replies.{as_reply}
-use Rattle.table.specs.declared.reply.Reply.{Reply}
 use Rattle.octets.specs.declared.faults.Fault.{Fault}
 use Rattle.kinds.proofs.Ran.{offset_is}
 use Rattle.decoding.specs.Replied.{Refuses}

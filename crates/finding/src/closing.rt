@@ -2,7 +2,6 @@
 ghost use Rattle.std.specs.Prelude.{ℕ, ◌+◌, ◌/◌, ◌<◌, ◌≤◌, ◌≡◌, length, drop};
 ghost use Rattle.x696.specs.Read.{message};
 ghost use Rattle.x696.specs.Table.{row_width};
-ghost use Rattle.x696.specs.SoundTable.{SoundTable};
 ghost use Rattle.finding.specs.Passing.{Passed, none};
 ghost use Rattle.finding.specs.Leading.{behind_of, BehindFits};
 
@@ -10,12 +9,11 @@ use crate::passing::{pass_components, pass_elements};
 use crate::spot::Opening;
 use kinds::cursor::Cursor;
 use octets::faults::Fault;
-use table::words::row_kind;
+use table::sound::Table;
 
 // What stands behind the child in its group, whose own octets begin at `pre`.
 pub fn pass_behind(
-    rows: &[u64],
-    items: &[u64],
+    table: &Table,
     row: usize,
     o: Opening,
     msg: &[u8],
@@ -23,13 +21,12 @@ pub fn pass_behind(
     at: usize,
     count: usize,
 ) -> Result<Cursor, Fault>
-    requires { SoundTable rows.now items.now × (row < length rows.now / row_width) × (at ≤ length msg.now) × (length msg.now ≤ 65535) × (pre ≤ length msg.now) × (o.row < row) × BehindFits rows.now items.now row o }
-    ensures { Passed none msg.now (behind_of rows.now items.now msg.now row pre o (message (drop at msg.now) count)) result }
+    requires { (row < length table.now.rows.now / row_width) × (at ≤ length msg.now) × (length msg.now ≤ 65535) × (pre ≤ length msg.now) × (o.row < row) × BehindFits table.now.rows.now table.now.items.now row o }
+    ensures { Passed none msg.now (behind_of table.now.rows.now table.now.items.now msg.now row pre o (message (drop at msg.now) count)) result }
 {
-    if row_kind(rows, row) == 10 {
+    if table.row_kind(row) == 10 {
         return pass_components(
-            rows,
-            items,
+            table,
             row,
             o.after,
             o.left as usize,
@@ -40,5 +37,5 @@ pub fn pass_behind(
             count,
         );
     }
-    pass_elements(rows, items, o.row, o.left, msg, at, count)
+    pass_elements(table, o.row, o.left, msg, at, count)
 }

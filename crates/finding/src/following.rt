@@ -3,7 +3,6 @@
 // anywhere comes before PATH.
 ghost use Rattle.std.specs.Prelude.{◌≡◌, ◌&&◌, not, ℕ, ◌+◌, ◌/◌, ◌<◌, ◌≤◌, length, drop, get_or, eqb};
 ghost use Rattle.x696.specs.Table.{row_width, type_of};
-ghost use Rattle.x696.specs.SoundTable.{SoundTable};
 ghost use Rattle.octets.specs.Presence.{bit_at};
 ghost use Rattle.finding.specs.Passing.{Fitting};
 ghost use Rattle.finding.specs.Following.{Childless, Follows};
@@ -14,6 +13,7 @@ use crate::passing::pass_component;
 use crate::spot::{Followed, Spot};
 use octets::faults::Fault;
 use octets::presence::is_present;
+use table::sound::Table;
 
 fn is_absent(mark: u64, msg: &[u8], pre: usize, b: usize) -> bool
     requires { (pre ≤ length msg.now) × (b < 1024) }
@@ -29,8 +29,7 @@ fn is_absent(mark: u64, msg: &[u8], pre: usize, b: usize) -> bool
 
 // The path ends here.
 fn follow_end(
-    rows: &[u64],
-    items: &[u64],
+    table: &Table,
     row: usize,
     mark: u64,
     given: u64,
@@ -42,11 +41,11 @@ fn follow_end(
     path: &[u64],
     step: usize,
 ) -> Result<Followed, Fault>
-    requires { SoundTable rows.now items.now × (row < length rows.now / row_width) × (at ≤ length msg.now) × (length msg.now ≤ 65535) × Fitting (type_of rows.now items.now row) mark given × (pre ≤ length msg.now) × (b < 1024) × (length path.now ≤ step) }
-    ensures { Follows rows.now items.now msg.now mark given row pre b at count path.now step result }
+    requires { (row < length table.now.rows.now / row_width) × (at ≤ length msg.now) × (length msg.now ≤ 65535) × Fitting (type_of table.now.rows.now table.now.items.now row) mark given × (pre ≤ length msg.now) × (b < 1024) × (length path.now ≤ step) }
+    ensures { Follows table.now.rows.now table.now.items.now msg.now mark given row pre b at count path.now step result }
 {
     let absent = is_absent(mark, msg, pre, b);
-    let end = pass_component(rows, items, row, mark, given, msg, pre, b, at, count)?;
+    let end = pass_component(table, row, mark, given, msg, pre, b, at, count)?;
     Ok(Followed {
         at: end.at,
         count: end.count,
@@ -67,8 +66,7 @@ fn follow_end(
 
 // The path leads nowhere at this step.
 fn follow_nowhere(
-    rows: &[u64],
-    items: &[u64],
+    table: &Table,
     row: usize,
     mark: u64,
     given: u64,
@@ -80,10 +78,10 @@ fn follow_nowhere(
     path: &[u64],
     step: usize,
 ) -> Result<Followed, Fault>
-    requires { SoundTable rows.now items.now × (row < length rows.now / row_width) × (at ≤ length msg.now) × (length msg.now ≤ 65535) × Fitting (type_of rows.now items.now row) mark given × (pre ≤ length msg.now) × (b < 1024) × (step < length path.now) × Childless rows.now items.now msg.now mark given row pre b at count (get_or path.now step 0) }
-    ensures { Follows rows.now items.now msg.now mark given row pre b at count path.now step result }
+    requires { (row < length table.now.rows.now / row_width) × (at ≤ length msg.now) × (length msg.now ≤ 65535) × Fitting (type_of table.now.rows.now table.now.items.now row) mark given × (pre ≤ length msg.now) × (b < 1024) × (step < length path.now) × Childless table.now.rows.now table.now.items.now msg.now mark given row pre b at count (get_or path.now step 0) }
+    ensures { Follows table.now.rows.now table.now.items.now msg.now mark given row pre b at count path.now step result }
 {
-    let end = pass_component(rows, items, row, mark, given, msg, pre, b, at, count)?;
+    let end = pass_component(table, row, mark, given, msg, pre, b, at, count)?;
     Ok(Followed {
         at: end.at,
         count: end.count,
@@ -93,8 +91,7 @@ fn follow_nowhere(
 
 // A component of a row with its mark and default, and presence bit b of the preamble at `pre`; the path from a step on.
 pub fn follow(
-    rows: &[u64],
-    items: &[u64],
+    table: &Table,
     row: usize,
     mark: u64,
     given: u64,
@@ -106,26 +103,19 @@ pub fn follow(
     path: &[u64],
     step: usize,
 ) -> Result<Followed, Fault>
-    requires { SoundTable rows.now items.now × (row < length rows.now / row_width) × (at ≤ length msg.now) × (length msg.now ≤ 65535) × Fitting (type_of rows.now items.now row) mark given × (pre ≤ length msg.now) × (b < 1024) }
-    ensures { Follows rows.now items.now msg.now mark given row pre b at count path.now step result }
+    requires { (row < length table.now.rows.now / row_width) × (at ≤ length msg.now) × (length msg.now ≤ 65535) × Fitting (type_of table.now.rows.now table.now.items.now row) mark given × (pre ≤ length msg.now) × (b < 1024) }
+    ensures { Follows table.now.rows.now table.now.items.now msg.now mark given row pre b at count path.now step result }
 {
     let ended = path.len() <= step;
     if ended {
-        return follow_end(
-            rows, items, row, mark, given, msg, pre, b, at, count, path, step,
-        );
+        return follow_end(table, row, mark, given, msg, pre, b, at, count, path, step);
     }
-    let opened = open_component(
-        rows, items, row, mark, given, msg, pre, b, at, count, path[step],
-    )?;
+    let opened = open_component(table, row, mark, given, msg, pre, b, at, count, path[step])?;
     match opened {
-        None => follow_nowhere(
-            rows, items, row, mark, given, msg, pre, b, at, count, path, step,
-        ),
+        None => follow_nowhere(table, row, mark, given, msg, pre, b, at, count, path, step),
         Some(o) => {
             let child = follow(
-                rows,
-                items,
+                table,
                 o.row,
                 o.mark,
                 o.given,
@@ -137,7 +127,7 @@ pub fn follow(
                 path,
                 step + 1,
             )?;
-            let end = pass_behind(rows, items, row, o, msg, at, child.at, child.count)?;
+            let end = pass_behind(table, row, o, msg, at, child.at, child.count)?;
             Ok(Followed {
                 at: end.at,
                 count: end.count,

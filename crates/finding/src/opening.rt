@@ -3,7 +3,6 @@ ghost use Rattle.std.specs.Prelude.{◌≡◌, ℕ, ◌+◌, ◌/◌, ◌<◌, �
 ghost use Rattle.x696.specs.Read.{message, read_component};
 ghost use Rattle.x696.specs.Operations.{node_limit};
 ghost use Rattle.x696.specs.Table.{row_width, row_kind, type_of};
-ghost use Rattle.x696.specs.SoundTable.{SoundTable};
 ghost use Rattle.octets.specs.Presence.{bit_at};
 ghost use Rattle.kinds.specs.Run.{inside_at};
 ghost use Rattle.finding.specs.Passing.{Fitting};
@@ -17,32 +16,28 @@ use octets::tags::read_tag;
 use octets::variable::read_quantity;
 use reading::parts::{count_marked, is_marked, is_padded};
 use reading::tags::find_tag;
-use table::words::{
-    alternative_row, component_default, component_mark, component_row, row_count, row_first,
-    row_kind,
-};
+use table::sound::Table;
 
 // Kind 10: preamble, then the components before the step's own (16.1).
 fn open_sequence(
-    rows: &[u64],
-    items: &[u64],
+    table: &Table,
     row: usize,
     msg: &[u8],
     at: usize,
     count: usize,
     step: u64,
 ) -> Result<Option<Opening>, Fault>
-    requires { SoundTable rows.now items.now × (row < length rows.now / row_width) × (at ≤ length msg.now) × (length msg.now ≤ 65535) × (count < 4096) × (row_kind rows.now row ≡ 10) }
-    ensures { Opens rows.now items.now msg.now row at step (inside_at (type_of rows.now items.now row) msg.now at count) result }
+    requires { (row < length table.now.rows.now / row_width) × (at ≤ length msg.now) × (length msg.now ≤ 65535) × (count < 4096) × (row_kind table.now.rows.now row ≡ 10) }
+    ensures { Opens table.now.rows.now table.now.items.now msg.now row at step (inside_at (type_of table.now.rows.now table.now.items.now row) msg.now at count) result }
 {
-    let first = row_first(rows, row) as usize;
-    let n = row_count(rows, row);
+    let first = table.row_first(row);
+    let n = table.row_count(row) as u64;
     if n <= step {
         return Ok(None);
     }
     let own = first + step as usize;
-    let bit = count_marked(items, first, step as usize);
-    let bits = bit + count_marked(items, own, (n - step) as usize);
+    let bit = count_marked(table, first, step as usize);
+    let bits = bit + count_marked(table, own, (n - step) as usize);
     // `div_ceil` would be five instructions in place of two, here and below
     if msg.len() - at < (bits + 7) / 8 {
         return Err(Cause::Short.at(at));
@@ -52,8 +47,7 @@ fn open_sequence(
         return Err(Cause::NotCanonical.at(at));
     }
     let before = pass_components(
-        rows,
-        items,
+        table,
         row,
         first,
         step as usize,
@@ -64,38 +58,37 @@ fn open_sequence(
         count + 1,
     )?;
     Ok(Some(Opening {
-        row: component_row(items, own) as usize,
-        mark: component_mark(items, own),
-        given: component_default(items, own),
+        row: table.component_row(own),
+        mark: table.component_mark(own),
+        given: table.component_default(own),
         bit,
         at: before.at,
         count: before.count,
         after: own + 1,
-        later: bit + is_marked(items, own),
+        later: bit + is_marked(table, own),
         left: n - (step + 1),
     }))
 }
 
 // Kind 11: quantity, then the elements before the step's own (17.1).
 fn open_sequence_of(
-    rows: &[u64],
-    items: &[u64],
+    table: &Table,
     row: usize,
     msg: &[u8],
     at: usize,
     count: usize,
     step: u64,
 ) -> Result<Option<Opening>, Fault>
-    requires { SoundTable rows.now items.now × (row < length rows.now / row_width) × (at ≤ length msg.now) × (length msg.now ≤ 65535) × (count < 4096) × (row_kind rows.now row ≡ 11) }
-    ensures { Opens rows.now items.now msg.now row at step (inside_at (type_of rows.now items.now row) msg.now at count) result }
+    requires { (row < length table.now.rows.now / row_width) × (at ≤ length msg.now) × (length msg.now ≤ 65535) × (count < 4096) × (row_kind table.now.rows.now row ≡ 11) }
+    ensures { Opens table.now.rows.now table.now.items.now msg.now row at step (inside_at (type_of table.now.rows.now table.now.items.now row) msg.now at count) result }
 {
-    let inner = component_row(items, row_first(rows, row) as usize) as usize;
+    let inner = table.component_row(table.row_first(row));
     let q = read_quantity(msg, at, at)?;
     let many = q.many.0;
     if many <= step {
         return Ok(None);
     }
-    let before = pass_elements(rows, items, inner, step, msg, q.next, count + 1)?;
+    let before = pass_elements(table, inner, step, msg, q.next, count + 1)?;
     Ok(Some(Opening {
         row: inner,
         mark: 0,
@@ -111,30 +104,29 @@ fn open_sequence_of(
 
 // Kind 12: tag (20.1). The step 0 alone leads into the alternative.
 fn open_choice(
-    rows: &[u64],
-    items: &[u64],
+    table: &Table,
     row: usize,
     msg: &[u8],
     at: usize,
     count: usize,
     step: u64,
 ) -> Result<Option<Opening>, Fault>
-    requires { SoundTable rows.now items.now × (row < length rows.now / row_width) × (at ≤ length msg.now) × (length msg.now ≤ 65535) × (count < 4096) × (row_kind rows.now row ≡ 12) }
-    ensures { Opens rows.now items.now msg.now row at step (inside_at (type_of rows.now items.now row) msg.now at count) result }
+    requires { (row < length table.now.rows.now / row_width) × (at ≤ length msg.now) × (length msg.now ≤ 65535) × (count < 4096) × (row_kind table.now.rows.now row ≡ 12) }
+    ensures { Opens table.now.rows.now table.now.items.now msg.now row at step (inside_at (type_of table.now.rows.now table.now.items.now row) msg.now at count) result }
 {
     if step != 0 {
         return Ok(None);
     }
-    let first = row_first(rows, row) as usize;
-    let n = row_count(rows, row) as usize;
+    let first = table.row_first(row);
+    let n = table.row_count(row);
     let g = read_tag(msg, at, at)?;
-    let k = find_tag(items, first, n, g.class, g.number);
+    let k = find_tag(table, first, n, g.class, g.number);
     // a tag of the type
     if n <= k {
         return Err(Cause::NotAllowed.at(at));
     }
     Ok(Some(Opening {
-        row: alternative_row(items, first + k) as usize,
+        row: table.alternative_row(first + k),
         mark: 0,
         given: 0,
         bit: 0,
@@ -148,35 +140,33 @@ fn open_choice(
 
 // A group of any kind; a kind without components has no step.
 fn open_group(
-    rows: &[u64],
-    items: &[u64],
+    table: &Table,
     row: usize,
     msg: &[u8],
     at: usize,
     count: usize,
     step: u64,
 ) -> Result<Option<Opening>, Fault>
-    requires { SoundTable rows.now items.now × (row < length rows.now / row_width) × (at ≤ length msg.now) × (length msg.now ≤ 65535) × (count < 4096) }
-    ensures { Opens rows.now items.now msg.now row at step (inside_at (type_of rows.now items.now row) msg.now at count) result }
+    requires { (row < length table.now.rows.now / row_width) × (at ≤ length msg.now) × (length msg.now ≤ 65535) × (count < 4096) }
+    ensures { Opens table.now.rows.now table.now.items.now msg.now row at step (inside_at (type_of table.now.rows.now table.now.items.now row) msg.now at count) result }
 {
-    let kind = row_kind(rows, row);
+    let kind = table.row_kind(row);
     if kind < 10 {
         return Ok(None);
     }
     if kind == 10 {
-        return open_sequence(rows, items, row, msg, at, count, step);
+        return open_sequence(table, row, msg, at, count, step);
     }
     if kind == 11 {
-        return open_sequence_of(rows, items, row, msg, at, count, step);
+        return open_sequence_of(table, row, msg, at, count, step);
     }
-    open_choice(rows, items, row, msg, at, count, step)
+    open_choice(table, row, msg, at, count, step)
 }
 
 // A component with its mark and default, and presence bit b of the preamble at `pre`. Where it is not carried, or no
 // node more may be counted, no step leads into it.
 pub fn open_component(
-    rows: &[u64],
-    items: &[u64],
+    table: &Table,
     row: usize,
     mark: u64,
     given: u64,
@@ -187,17 +177,17 @@ pub fn open_component(
     count: usize,
     step: u64,
 ) -> Result<Option<Opening>, Fault>
-    requires { SoundTable rows.now items.now × (row < length rows.now / row_width) × (at ≤ length msg.now) × (length msg.now ≤ 65535) × Fitting (type_of rows.now items.now row) mark given × (pre ≤ length msg.now) × (b < 1024) }
-    ensures { Opens rows.now items.now msg.now row at step (read_component node_limit mark given (type_of rows.now items.now row) (bit_at msg.now pre b) (length msg.now) (message (drop at msg.now) count)) result }
+    requires { (row < length table.now.rows.now / row_width) × (at ≤ length msg.now) × (length msg.now ≤ 65535) × Fitting (type_of table.now.rows.now table.now.items.now row) mark given × (pre ≤ length msg.now) × (b < 1024) }
+    ensures { Opens table.now.rows.now table.now.items.now msg.now row at step (read_component node_limit mark given (type_of table.now.rows.now table.now.items.now row) (bit_at msg.now pre b) (length msg.now) (message (drop at msg.now) count)) result }
 {
     if 4096 <= count {
         return Ok(None);
     }
     if mark == 0 {
-        return open_group(rows, items, row, msg, at, count, step);
+        return open_group(table, row, msg, at, count, step);
     }
     if !is_present(msg, pre, b) {
         return Ok(None);
     }
-    open_group(rows, items, row, msg, at, count, step)
+    open_group(table, row, msg, at, count, step)
 }

@@ -68,9 +68,5 @@ pub fn read_setting(
     if s.absent {
         return Ok(Setting::Absent);
     }
-    Ok(setting_of(
-        row_kind(rows, s.row),
-        row_bounds(rows, s.row),
-        s.number,
-    ))
+    Ok(setting_of(row_kind(rows, s.row), row_bounds(rows, s.row), s.number))
 }

@@ -1,6 +1,6 @@
 -- What the check of a table hands out: a table of these rows and items, which are sound; or the fault.
 -- Assumes nothing.
-use Rattle.std.specs.Prelude.{◌≡◌, Result, Ok, Err, ⊤, List, ℕ}
+use Rattle.std.specs.Prelude.{◌≡◌, Result, Ok, Err, List, ℕ}
 use Rattle.x696.specs.TableFault.{sound, table_fault}
 use Rattle.table.specs.Judged.{as_fault}
 use Rattle.table.specs.declared.check.TableFault.{TableFault}

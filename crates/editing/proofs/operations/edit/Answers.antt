@@ -1,6 +1,6 @@
 -- The reply of what was put, or of the refusal.
 -- Assumes nothing.
-use Rattle.editing.proofs.Edits.{reply_refuses, reply_done}
+use Rattle.encoding.proofs.Replying.{reply_refuses, reply_done}
 use Rattle.editing.proofs.operations.edit.Goals as goal
 
 pub returns-in-Ok : goal.returns-in-Ok

@@ -11,7 +11,12 @@ use Rattle.editing.proofs.operations.put_edited.Goals as goal
 pub survey_list-requires : goal.survey_list-requires
 survey_list-requires c =
     let h = c.find_in.ensures.went _ c.in_ok-w.was in
-    (h.sound, h.spot.inside, given_sound _ _ _ _ _ h)
+    (h.spot.inside, given_sound _ _ _ _ _ h)
+
+pub invariant_of-table : goal.invariant_of-table
+invariant_of-table c =
+    let h = c.find_in.ensures.went _ c.in_ok-w.was in
+    record { sound = h.sound }
 
 pub overflow_sub-many : goal.overflow_sub-many
 overflow_sub-many c =
@@ -83,7 +88,6 @@ splice-requires c =
     let h = c.find_in.ensures.went _ c.in_ok-w.was in
     let a = c.survey_list.ensures.went _ c.in_ok-n.was in
     let (low, high) = octets_held _ _ _ _ _ h in (
-      h.sound,
       h.spot.inside,
       given_sound _ _ _ _ _ h,
       a.few,

@@ -5,6 +5,6 @@ use Rattle.editing.proofs.splicing.splice.Goals as goal
 
 pub returns : goal.returns
 returns c =
-    splice_done _ _ _ _ _ _ _ _ (c.requires.0.row c.args.s.row c.requires.1) c.requires.2
-    c.requires.6 c.requires.7 _ c.copy.ensures
+    splice_done _ _ _ _ _ _ _ _ (c.args.table.now.sound.row c.args.s.row c.requires.0) c.requires.1
+    c.requires.5 c.requires.6 _ c.copy.ensures
     c.write_component-new.ensures c.copy-2.ensures c.put_mark.ensures

@@ -6,14 +6,13 @@ use Rattle.finding.proofs.closing.pass_behind.Goals as goal
 
 pub pass_components-requires : goal.pass_components-requires
 pass_components-requires c =
-    let fits = c.requires.6 (rw c.row_kind.ensures at c.if-row_kind-eq10.true) in (
+    let fits = c.requires.5 (rw c.row_kind.ensures at c.if-row_kind-eq10.true) in (
       c.requires.0,
       c.requires.1,
       c.requires.2,
-      c.requires.3,
       fits.0,
       fits.1,
-      c.requires.4,
+      c.requires.3,
       fits.2,
     )
 

@@ -14,7 +14,6 @@ follow_end-requires t c = (
   c.requires.3,
   c.requires.4,
   c.requires.5,
-  c.requires.6,
   c.if-ended.true,
 )
 
@@ -37,7 +36,6 @@ follow_nowhere-requires t c = (
   c.requires.3,
   c.requires.4,
   c.requires.5,
-  c.requires.6,
   c.if-ended.false,
   c.open_component.ensures.nowhere (c.in_ok-opened.was ∙ ap Ok c.in-None.is),
 )
@@ -53,12 +51,11 @@ follow-requires t c =
     let l = c.open_component.ensures.into _ (c.in_ok-opened.was ∙ ap Ok c.in-Some.is) in (
       omega (arith, l.lower),
       (
-        c.requires.0,
-        omega (arith, l.lower, c.requires.1),
+        omega (arith, l.lower, c.requires.0),
         l.inside,
-        c.requires.3,
-        l.fitting,
         c.requires.2,
+        l.fitting,
+        c.requires.1,
         l.few,
       ),
     )
@@ -73,7 +70,7 @@ pub pass_behind-requires : goal.pass_behind-requires
 pass_behind-requires t c =
     let l = c.open_component.ensures.into _ (c.in_ok-opened.was ∙ ap Ok c.in-Some.is) in
     let h = c.follow.ensures.went _ c.in_ok-child-in-Some.was in
-    (c.requires.0, c.requires.1, h.inside, c.requires.3, c.requires.2, l.lower, l.behind)
+    (c.requires.0, h.inside, c.requires.2, c.requires.1, l.lower, l.behind)
 
 pub returns-in_err-end-in-Some : goal.returns-in_err-end-in-Some
 returns-in_err-end-in-Some t c =

@@ -12,7 +12,7 @@ overflow_sub-result c =
     let below = below_known 8 c.args.msg.now (λ i. (c.type_inv.msg i).fits) in
     omega (
       arith,
-      counted_more _ _ _ _ _ _ _ _ _ _ c.requires.2 below (c.pass_component.ensures.went _
+      counted_more _ _ _ _ _ _ _ _ _ _ c.requires.1 below (c.pass_component.ensures.went _
           c.in_ok-end.was),
     )
 
@@ -24,6 +24,6 @@ returns-in_err-end c =
 pub returns : goal.returns
 returns c =
     let below = below_known 8 c.args.msg.now (λ i. (c.type_inv.msg i).fits) in
-    follows_on (end_finds _ _ _ _ _ _ _ _ _ _ c.requires.2 below (c.pass_component.ensures.went _
+    follows_on (end_finds _ _ _ _ _ _ _ _ _ _ c.requires.1 below (c.pass_component.ensures.went _
     c.in_ok-end.was) _
-    c.is_absent-absent.ensures c.requires.6 c.requires.1 c.requires.4 _ _ c.requires.7)
+    c.is_absent-absent.ensures c.requires.5 c.requires.0 c.requires.3 _ _ c.requires.6)

@@ -11,5 +11,5 @@ returns-in_err-end c =
 
 pub returns : goal.returns
 returns c =
-    follows_on (none_loses _ _ _ _ _ _ _ _ _ _ _ _ c.requires.7 c.requires.8
+    follows_on (none_loses _ _ _ _ _ _ _ _ _ _ _ _ c.requires.6 c.requires.7
     (c.pass_component.ensures.went _ c.in_ok-end.was))

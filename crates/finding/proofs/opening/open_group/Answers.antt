@@ -10,12 +10,11 @@ returns-then-kind-lt10 c = opened_nowhere λ v s. leaf_nowhere _ _ _ _ _ v s (rw
 
 pub open_choice-requires : goal.open_choice-requires
 open_choice-requires c =
-    let sound = c.requires.0.row c.args.row c.requires.1 in
+    let sound = c.args.table.now.sound.row c.args.row c.requires.0 in
     let (_, most) = kind_known _ _ _ sound in (
       c.requires.0,
       c.requires.1,
       c.requires.2,
       c.requires.3,
-      c.requires.4,
       omega (arith, most, c.row_kind-kind.ensures, c.if-kind-lt10.false, c.if-kind-eq10.false, c.if-kind-eq11.false),
     )

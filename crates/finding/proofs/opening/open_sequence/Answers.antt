@@ -13,19 +13,19 @@ use Rattle.finding.proofs.opening.open_sequence.Goals as goal
 
 pub returns-then-n-step : goal.returns-then-n-step
 returns-then-n-step c =
-    let sound = c.requires.0.row c.args.row c.requires.1 in
-    opened_nowhere (past_components _ _ _ _ _ _ c.requires.2 sound c.requires.5 _ _ _
+    let sound = c.args.table.now.sound.row c.args.row c.requires.0 in
+    opened_nowhere (past_components _ _ _ _ _ _ c.requires.1 sound c.requires.4 _ _ _
     c.row_first-first.ensures
     c.row_count-n.ensures c.if-n-step.true)
 
 pub overflow_add-own : goal.overflow_add-own
 overflow_add-own c =
-    let sound = c.requires.0.row c.args.row c.requires.1 in
-    let row = sequence_row _ _ _ sound c.requires.5 in
+    let sound = c.args.table.now.sound.row c.args.row c.requires.0 in
+    let row = sequence_row _ _ _ sound c.requires.4 in
     omega (
       arith,
       row.range,
-      c.requires.0.few_items,
+      c.args.table.now.sound.few_items,
       c.row_first-first.ensures,
       c.row_count-n.ensures,
       c.if-n-step.false,
@@ -33,24 +33,24 @@ overflow_add-own c =
 
 pub count_marked-bit-requires : goal.count_marked-bit-requires
 count_marked-bit-requires c =
-    let sound = c.requires.0.row c.args.row c.requires.1 in
-    let row = sequence_row _ _ _ sound c.requires.5 in
+    let sound = c.args.table.now.sound.row c.args.row c.requires.0 in
+    let row = sequence_row _ _ _ sound c.requires.4 in
     omega (arith, row.range, c.row_first-first.ensures, c.row_count-n.ensures, c.if-n-step.false)
 
 pub count_marked-requires : goal.count_marked-requires
 count_marked-requires c =
-    let sound = c.requires.0.row c.args.row c.requires.1 in
-    let row = sequence_row _ _ _ sound c.requires.5 in
+    let sound = c.args.table.now.sound.row c.args.row c.requires.0 in
+    let row = sequence_row _ _ _ sound c.requires.4 in
     omega (arith, row.range, c.row_first-first.ensures, c.row_count-n.ensures, c.if-n-step.false)
 
 pub overflow_add-bits-2 : goal.overflow_add-bits-2
 overflow_add-bits-2 c =
-    let sound = c.requires.0.row c.args.row c.requires.1 in
-    let row = sequence_row _ _ _ sound c.requires.5 in
+    let sound = c.args.table.now.sound.row c.args.row c.requires.0 in
+    let row = sequence_row _ _ _ sound c.requires.4 in
     omega (
       arith,
       row.range,
-      c.requires.0.few_items,
+      c.args.table.now.sound.few_items,
       c.row_first-first.ensures,
       c.row_count-n.ensures,
       c.if-n-step.false,
@@ -60,48 +60,47 @@ overflow_add-bits-2 c =
 
 pub returns-then-msg-at : goal.returns-then-msg-at
 returns-then-msg-at c =
-    let sound = c.requires.0.row c.args.row c.requires.1 in
-    opened_refused (preamble_stops _ _ _ _ _ _ c.requires.2 sound c.requires.5 _ _ _ c.row_first-first.ensures
+    let sound = c.args.table.now.sound.row c.args.row c.requires.0 in
+    opened_refused (preamble_stops _ _ _ _ _ _ c.requires.1 sound c.requires.4 _ _ _ c.row_first-first.ensures
     c.row_count-n.ensures
     (all_marks _ _ _ _ _ _ c.if-n-step.false c.count_marked-bit.ensures.0
     c.count_marked.ensures.0)
-    (preamble_short _ _ _ c.requires.2 c.if-msg-at.true)) c.at.ensures
+    (preamble_short _ _ _ c.requires.1 c.if-msg-at.true)) c.at.ensures
 
 pub is_padded-requires : goal.is_padded-requires
 is_padded-requires c =
-    let sound = c.requires.0.row c.args.row c.requires.1 in
-    let row = sequence_row _ _ _ sound c.requires.5 in (
+    let sound = c.args.table.now.sound.row c.args.row c.requires.0 in
+    let row = sequence_row _ _ _ sound c.requires.4 in (
       omega (
         arith,
         row.range,
-        c.requires.0.few_items,
+        c.args.table.now.sound.few_items,
         c.row_first-first.ensures,
         c.row_count-n.ensures,
         c.if-n-step.false,
         c.count_marked-bit.ensures.1,
         c.count_marked.ensures.1,
       ),
-      omega (arith, c.requires.2, c.if-msg-at.false),
+      omega (arith, c.requires.1, c.if-msg-at.false),
     )
 
 pub returns-then-not-is_padded : goal.returns-then-not-is_padded
 returns-then-not-is_padded c =
-    let sound = c.requires.0.row c.args.row c.requires.1 in
-    opened_refused (preamble_stops _ _ _ _ _ _ c.requires.2 sound c.requires.5 _ _ _ c.row_first-first.ensures
+    let sound = c.args.table.now.sound.row c.args.row c.requires.0 in
+    opened_refused (preamble_stops _ _ _ _ _ _ c.requires.1 sound c.requires.4 _ _ _ c.row_first-first.ensures
     c.row_count-n.ensures
     (all_marks _ _ _ _ _ _ c.if-n-step.false c.count_marked-bit.ensures.0 c.count_marked.ensures.0)
-    (preamble_padded _ _ _ c.requires.2 c.if-msg-at.false _ c.is_padded.ensures
+    (preamble_padded _ _ _ c.requires.1 c.if-msg-at.false _ c.is_padded.ensures
     c.if-not-is_padded.true))
     c.at-then-not-is_padded.ensures
 
 pub pass_components-requires : goal.pass_components-requires
 pass_components-requires c =
-    let sound = c.requires.0.row c.args.row c.requires.1 in
-    let row = sequence_row _ _ _ sound c.requires.5 in (
+    let sound = c.args.table.now.sound.row c.args.row c.requires.0 in
+    let row = sequence_row _ _ _ sound c.requires.4 in (
       c.requires.0,
-      c.requires.1,
-      omega (arith, c.requires.2, c.if-msg-at.false),
-      c.requires.3,
+      omega (arith, c.requires.1, c.if-msg-at.false),
+      c.requires.2,
       omega (arith, row.range, c.row_first-first.ensures, c.row_count-n.ensures, c.if-n-step.false),
       (λ j l. rw c.row_first-first.ensures (row.component j (omega (
         arith,
@@ -109,11 +108,11 @@ pass_components-requires c =
         c.row_count-n.ensures,
         c.if-n-step.false,
       )))),
-      c.requires.2,
+      c.requires.1,
       omega (
         arith,
         row.range,
-        c.requires.0.few_items,
+        c.args.table.now.sound.few_items,
         c.row_first-first.ensures,
         c.row_count-n.ensures,
         c.if-n-step.false,
@@ -122,30 +121,30 @@ pass_components-requires c =
 
 pub component_row-requires : goal.component_row-requires
 component_row-requires c =
-    let sound = c.requires.0.row c.args.row c.requires.1 in
-    let row = sequence_row _ _ _ sound c.requires.5 in
+    let sound = c.args.table.now.sound.row c.args.row c.requires.0 in
+    let row = sequence_row _ _ _ sound c.requires.4 in
     omega (arith, row.range, c.row_first-first.ensures, c.row_count-n.ensures, c.if-n-step.false)
 
 pub component_mark-requires : goal.component_mark-requires
 component_mark-requires c =
-    let sound = c.requires.0.row c.args.row c.requires.1 in
-    let row = sequence_row _ _ _ sound c.requires.5 in
+    let sound = c.args.table.now.sound.row c.args.row c.requires.0 in
+    let row = sequence_row _ _ _ sound c.requires.4 in
     omega (arith, row.range, c.row_first-first.ensures, c.row_count-n.ensures, c.if-n-step.false)
 
 pub component_default-requires : goal.component_default-requires
 component_default-requires c =
-    let sound = c.requires.0.row c.args.row c.requires.1 in
-    let row = sequence_row _ _ _ sound c.requires.5 in
+    let sound = c.args.table.now.sound.row c.args.row c.requires.0 in
+    let row = sequence_row _ _ _ sound c.requires.4 in
     omega (arith, row.range, c.row_first-first.ensures, c.row_count-n.ensures, c.if-n-step.false)
 
 pub overflow_add-result : goal.overflow_add-result
 overflow_add-result c =
-    let sound = c.requires.0.row c.args.row c.requires.1 in
-    let row = sequence_row _ _ _ sound c.requires.5 in
+    let sound = c.args.table.now.sound.row c.args.row c.requires.0 in
+    let row = sequence_row _ _ _ sound c.requires.4 in
     omega (
       arith,
       row.range,
-      c.requires.0.few_items,
+      c.args.table.now.sound.few_items,
       c.row_first-first.ensures,
       c.row_count-n.ensures,
       c.if-n-step.false,
@@ -153,30 +152,30 @@ overflow_add-result c =
 
 pub is_marked-requires : goal.is_marked-requires
 is_marked-requires c =
-    let sound = c.requires.0.row c.args.row c.requires.1 in
-    let row = sequence_row _ _ _ sound c.requires.5 in
+    let sound = c.args.table.now.sound.row c.args.row c.requires.0 in
+    let row = sequence_row _ _ _ sound c.requires.4 in
     omega (arith, row.range, c.row_first-first.ensures, c.row_count-n.ensures, c.if-n-step.false)
 
 pub returns-in_err-before : goal.returns-in_err-before
 returns-in_err-before c =
-    let sound = c.requires.0.row c.args.row c.requires.1 in
+    let sound = c.args.table.now.sound.row c.args.row c.requires.0 in
     let below = below_known 8 c.args.msg.now (λ i. (c.type_inv.msg i).fits) in
     let p = err_from_is_err_and c.from_residual.result c.from_residual.ensures.1 in
-    rw (p.1, p.2) (opened_fault _ (before_stops _ _ _ _ _ _ c.requires.2 sound c.requires.5 _ _ _ c.row_first-first.ensures
+    rw (p.1, p.2) (opened_fault _ (before_stops _ _ _ _ _ _ c.requires.1 sound c.requires.4 _ _ _ c.row_first-first.ensures
     c.row_count-n.ensures c.if-n-step.false _ _ c.count_marked-bit.ensures.0 c.count_marked.ensures.0 below
-    (preamble_got _ _ _ c.requires.2 c.if-msg-at.false _ c.is_padded.ensures c.if-not-is_padded.false)
+    (preamble_got _ _ _ c.requires.1 c.if-msg-at.false _ c.is_padded.ensures c.if-not-is_padded.false)
     (c.pass_components.ensures.stopped _ c.in_err-before.was)))
 
 pub returns : goal.returns
 returns c =
-    let sound = c.requires.0.row c.args.row c.requires.1 in
+    let sound = c.args.table.now.sound.row c.args.row c.requires.0 in
     let below = below_known 8 c.args.msg.now (λ i. (c.type_inv.msg i).fits) in
-    opened_into (sequence_leads _ _ _ _ _ _ c.requires.2 sound c.requires.5 _ _ _ c.row_first-first.ensures
+    opened_into (sequence_leads _ _ _ _ _ _ c.requires.1 sound c.requires.4 _ _ _ c.row_first-first.ensures
     c.row_count-n.ensures c.if-n-step.false _ _ c.count_marked-bit.ensures.0 c.count_marked.ensures.0
     below
-    (preamble_got _ _ _ c.requires.2 c.if-msg-at.false _ c.is_padded.ensures c.if-not-is_padded.false)
+    (preamble_got _ _ _ c.requires.1 c.if-msg-at.false _ c.is_padded.ensures c.if-not-is_padded.false)
     (c.pass_components.ensures.went _ c.in_ok-before.was) _ c.component_row.ensures
     c.component_mark.ensures
     c.component_default.ensures refl refl refl (add_assoc _ _ _)
-    (rw c.is_marked.ensures.0 refl) refl c.count_marked-bit.ensures.1 c.requires.0.few_items (omega
-    (arith, c.requires.2, c.if-msg-at.false)))
+    (rw c.is_marked.ensures.0 refl) refl c.count_marked-bit.ensures.1 c.args.table.now.sound.few_items (omega
+    (arith, c.requires.1, c.if-msg-at.false)))

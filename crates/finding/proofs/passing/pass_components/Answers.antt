@@ -9,13 +9,12 @@ use Rattle.finding.proofs.passing.pass_components.Goals as goal
 
 pub read_members-requires : goal.read_members-requires
 read_members-requires c = (
-  c.requires.0,
-  omega (arith, c.requires.1),
-  members_among c.requires.4 c.requires.7 c.requires.5,
-  c.requires.6,
-  c.requires.2,
+  omega (arith, c.requires.0),
+  members_among c.requires.3 c.requires.6 c.requires.4,
+  c.requires.5,
+  c.requires.1,
   omega arith,
-  c.requires.3,
+  c.requires.2,
 )
 
 pub returns-in_err-end : goal.returns-in_err-end

@@ -9,13 +9,12 @@ use Rattle.finding.proofs.passing.pass_elements.Goals as goal
 
 pub read_members-requires : goal.read_members-requires
 read_members-requires c = (
-  c.requires.0,
-  omega (arith, c.requires.1),
+  omega (arith, c.requires.0),
   members_alone (omega arith),
-  c.requires.2,
-  c.requires.2,
+  c.requires.1,
+  c.requires.1,
   omega arith,
-  c.requires.3,
+  c.requires.2,
 )
 
 pub returns-in_err-end : goal.returns-in_err-end

@@ -13,8 +13,7 @@ returns-then-msg-gt65535 c = place_stop (long_behind _ _ _ c.if-msg-gt65535.true
 
 pub follow-requires : goal.follow-requires
 follow-requires c = (
-  c.requires.0,
-  c.requires.1,
+  c.requires,
   omega arith,
   omega (arith, c.if-msg-gt65535.false),
   (
@@ -48,5 +47,5 @@ pub returns-in-Ok-leads : goal.returns-in-Ok-leads
 returns-in-Ok-leads c =
     let h = c.follow.ensures.went _ c.in-Ok.is in
     let below = below_known 8 c.args.msg.now (λ i. (c.type_inv.msg i).fits) in
-    place_found (found_behind _ _ _ _ _ (omega (arith, c.if-msg-gt65535.false)) c.requires.0 c.requires.1 below h
+    place_found (found_behind _ _ _ _ _ (omega (arith, c.if-msg-gt65535.false)) c.args.table.now.sound c.requires below h
     c.if-end-msg.false c.in-Ok-leads.is)

@@ -1,6 +1,6 @@
 -- The measures of the six writers: the row number falls at each descent; `write_members` is below the row bound `above`,
 -- the others at their own row. Invariant of the loop: what is left of the members is to the whole as `MembersLeft` says.
-use Prim.Native.Nat.{◌≤◌, ◌+◌, ◌-◌, ◌*◌}
+use Prim.Native.Nat.{◌≤◌, ◌+◌, ◌*◌}
 use mathlib.Core.Path.{◌≡◌}
 use lib.ListN.{length}
 use Rattle.x696.specs.Value.{node_width}
