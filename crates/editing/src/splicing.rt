@@ -21,7 +21,7 @@ fn put_mark(table: &Table, s: Spot, nodes: &[u64], out: &mut [u8])
     if s.mark == 0 {
         return;
     }
-    let missing = is_missing(nodes, 0, table.row_kind(s.row), s.mark, s.given);
+    let missing = is_missing(nodes, 0, table.row_kind(s.row).number(), s.mark, s.given);
     put_presence(out, s.pre, s.bit, !missing);
 }
 

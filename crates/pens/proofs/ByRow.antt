@@ -5,16 +5,9 @@ use mathlib.Core.Bool.{Bool, true, false}
 use mathlib.Core.List.{List}
 use Prim.Native.Nat.{ℕ, ◌<◌, ◌≤◌}
 use native.Mathlib.Omega.{arith}
-use lib.Dec.{eqb}
-use borrow.Author.Tests.{eqb-true, eqb-false}
-use Rattle.x696.proofs.OutcomeLaws.{cases}
-use Rattle.x696.specs.Outcome.{choose}
-use Rattle.x696.specs.Leaf.{Leaf, integer}
+use Rattle.x696.specs.Leaf.{Leaf}
 use Rattle.x696.specs.Types.{Ty, leaf}
-use Rattle.x696.specs.Table.{row_kind, row_flags, row_a, row_b, type_by, type_of}
-use Rattle.x696.specs.TableFault.{row_sound}
-use Rattle.x696.proofs.TableLaws.{type_of_row}
-use Rattle.x696.proofs.TableRows.{kind_known}
+use Rattle.x696.specs.Table.{row_kind, row_flags, row_a, row_b, type_of}
 use Rattle.std.specs.Prelude.{◌⊎◌}
 use Rattle.std.proofs.Math.Logic.{inl, inr, ⊎_elim}
 use denote.Enum.Bare.{sameb}

@@ -70,7 +70,15 @@ fn begin_string(
     let bounds = row_bounds(rows, row);
     match kind {
         Kind::BitString => begin_bits(bounds, n, contents, used, to, out),
-        _ => begin_text(kind == Kind::VisibleString, bounds, n, contents, used, to, out),
+        _ => begin_text(
+            kind == Kind::VisibleString,
+            bounds,
+            n,
+            contents,
+            used,
+            to,
+            out,
+        ),
     }
 }
 

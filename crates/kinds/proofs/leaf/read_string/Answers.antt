@@ -1,7 +1,8 @@
 -- The answer of `read_string` is the outcome of reading the row's type, by the row's kind.
 -- Assumes nothing.
 use native.Mathlib.Omega.{arith}
-use Rattle.kinds.proofs.ByKind.{ran_row, octets_type, bits_type, visible_type, last_string}
+use Rattle.kinds.proofs.ByKind.{ran_row, octets_type, bits_type, visible_type}
+use Rattle.table.proofs.KindNumbers.{visible_left}
 use Rattle.kinds.proofs.leaf.read_string.Goals as goal
 
 pub known_kind-requires : goal.known_kind-requires
@@ -21,7 +22,7 @@ returns-in-BitString c =
 
 pub returns-in_default : goal.returns-in_default
 returns-in_default c =
-    let visible = last_string _ (omega (arith, c.known_kind.ensures, c.requires.1)) (omega (arith, c.known_kind.ensures, c.requires.2))
+    let visible = visible_left _ (omega (arith, c.known_kind.ensures, c.requires.1)) (omega (arith, c.known_kind.ensures, c.requires.2))
     c.in_default.not-OctetString c.in_default.not-BitString in
     ran_row _ _ _ (visible_type _ _ _ c.known_kind.ensures c.row_bounds-bounds.ensures.0 c.row_bounds-bounds.ensures.1
     c.row_bounds-bounds.ensures.2 visible) c.read_visible.ensures

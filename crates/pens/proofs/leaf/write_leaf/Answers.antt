@@ -2,7 +2,7 @@
 -- Assumes nothing.
 use mathlib.Core.Path.{refl}
 use native.Mathlib.Omega.{arith}
-use Rattle.kinds.proofs.ByKind.{is_string, number_left}
+use Rattle.table.proofs.KindNumbers.{is_string, number_left}
 use Rattle.x696.proofs.TableRows.{kind_known}
 use Rattle.pens.proofs.Behind.{number_stops, number_goes, string_stops, string_goes}
 use Rattle.pens.proofs.leaf.write_leaf.Goals as goal

@@ -1,5 +1,6 @@
 -- The answer of the writer of the row's kind, of those without contents. Assumes nothing.
-use Rattle.kinds.proofs.ByKind.{boolean_type, integer_type, listed_type, listed_range, single_type, double_type, null_type, last_scalar}
+use Rattle.kinds.proofs.ByKind.{boolean_type, integer_type, listed_type, listed_range, single_type, double_type, null_type}
+use Rattle.table.proofs.KindNumbers.{null_left}
 use Rattle.pens.proofs.ByRow.{numbered_row}
 use Rattle.pens.proofs.leaf.write_number.Goals as goal
 
@@ -28,6 +29,6 @@ returns-in-Double c = numbered_row (double_type _ _ _ c.requires.2 c.in-Double.i
 
 pub returns-in_default : goal.returns-in_default
 returns-in_default c =
-    let null = last_scalar _ c.requires.3 c.in_default.not-Boolean c.in_default.not-Integer c.in_default.not-Enumerated
+    let null = null_left _ c.requires.3 c.in_default.not-Boolean c.in_default.not-Integer c.in_default.not-Enumerated
     c.in_default.not-Single c.in_default.not-Double in
     numbered_row (null_type _ _ _ c.requires.2 null) (c.write_null.ensures _)

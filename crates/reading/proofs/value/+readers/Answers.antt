@@ -8,9 +8,9 @@ use Rattle.std.proofs.lemmas.Result.{err_from_is_err_and}
 use Prim.Native.Nat.{◌<◌}
 use native.Mathlib.Omega.{arith}
 use Rattle.x696.proofs.TableRows.{choice_row, sequence_row, sequence_of_row}
-use Rattle.kinds.proofs.ByKind.{kind_number, is_scalar, is_string}
+use Rattle.table.proofs.KindNumbers.{kind_number, is_number, is_string}
 use Rattle.octets.proofs.Octets.{below_known}
-use mathlib.Core.Path.{◌≡◌, refl, sym, ◌∙◌}
+use mathlib.Core.Path.{refl, ◌∙◌}
 use Rattle.reading.proofs.Chains.{Chain}
 use Rattle.x696.specs.Table.{type_of}
 use Rattle.kinds.proofs.Ran
@@ -245,7 +245,7 @@ read_row-returns-then-count-ge4096 t c =
 pub read_row-read_scalar-requires : goal.read_row-read_scalar-requires
 read_row-read_scalar-requires t c =
     let sound = c.args.table.now.sound.row c.args.row c.requires.0 in
-    (c.requires.0, sound, is_scalar c.row_kind-kind.ensures c.in-Boolean.is, c.requires.1)
+    (c.requires.0, sound, is_number c.row_kind-kind.ensures c.in-Boolean.is, c.requires.1)
 
 pub read_row-returns-in_err-x-in-Boolean : goal.read_row-returns-in_err-x-in-Boolean
 read_row-returns-in_err-x-in-Boolean t c =
@@ -276,7 +276,7 @@ read_row-read_sequence-requires t c = (
     c.requires.1,
     c.requires.2,
     c.if-count-ge4096.false,
-    kind_number _ _ c.row_kind-kind.ensures c.in-Sequence.is,
+    kind_number c.row_kind-kind.ensures c.in-Sequence.is,
     c.requires.3,
   ),
 )
@@ -292,7 +292,7 @@ read_row-read_sequence_of-requires t c = (
     c.requires.1,
     c.requires.2,
     c.if-count-ge4096.false,
-    kind_number _ _ c.row_kind-kind.ensures c.in-SequenceOf.is,
+    kind_number c.row_kind-kind.ensures c.in-SequenceOf.is,
     c.requires.3,
   ),
 )
@@ -308,7 +308,7 @@ read_row-read_choice-requires t c = (
     c.requires.1,
     c.requires.2,
     c.if-count-ge4096.false,
-    kind_number _ _ c.row_kind-kind.ensures c.in-Choice.is,
+    kind_number c.row_kind-kind.ensures c.in-Choice.is,
     c.requires.3,
   ),
 )

@@ -6,10 +6,10 @@
 -- The answer of `write_sequence_of` is the outcome of walking a SEQUENCE OF behind its node.
 use Rattle.std.proofs.lemmas.Result.{err_from_is_err_and}
 use Prim.Native.Nat.{◌<◌, ◌≤◌}
-use mathlib.Core.Path.{refl, ◌≡◌, sym, ◌∙◌}
+use mathlib.Core.Path.{refl, ◌∙◌}
 use native.Mathlib.Omega.{arith}
 use Rattle.x696.proofs.TableRows.{choice_row, sequence_row, sequence_of_row}
-use Rattle.kinds.proofs.ByKind.{kind_number, leaf_left}
+use Rattle.table.proofs.KindNumbers.{kind_number, leaf_left}
 use Rattle.reading.proofs.Members.{members_alone}
 use Rattle.pens.proofs.Putting
 use Rattle.writing.proofs.Copies
@@ -302,7 +302,7 @@ write_row-write_sequence-requires t c = (
     c.requires.3,
     c.requires.4,
     c.requires.5,
-    kind_number _ _ c.row_kind-kind.ensures c.in-Sequence.is,
+    kind_number c.row_kind-kind.ensures c.in-Sequence.is,
   ),
 )
 
@@ -324,7 +324,7 @@ write_row-write_sequence_of-requires t c = (
     c.requires.3,
     c.requires.4,
     c.requires.5,
-    kind_number _ _ c.row_kind-kind.ensures c.in-SequenceOf.is,
+    kind_number c.row_kind-kind.ensures c.in-SequenceOf.is,
   ),
 )
 
@@ -346,7 +346,7 @@ write_row-write_choice-requires t c = (
     c.requires.3,
     c.requires.4,
     c.requires.5,
-    kind_number _ _ c.row_kind-kind.ensures c.in-Choice.is,
+    kind_number c.row_kind-kind.ensures c.in-Choice.is,
   ),
 )
 
