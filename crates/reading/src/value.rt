@@ -145,7 +145,13 @@ fn read_member(
     if is_default(table.items, i, mark, d.number) {
         return Err(Cause::NotCanonical.at(at));
     }
-    Ok(d)
+    // made anew, so that it stays in registers
+    Ok(Cursor {
+        at: d.at,
+        count: d.count,
+        used: d.used,
+        number: d.number,
+    })
 }
 
 // A value by its row's kind.
