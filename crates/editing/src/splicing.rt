@@ -21,7 +21,7 @@ fn put_mark(table: &Table, s: Spot, nodes: &[u64], out: &mut [u8])
     if s.component.mark == 0 {
         return;
     }
-    let missing = is_missing(nodes, 0, table.row_kind(s.component.row), s.component.mark, s.component.given);
+    let missing = is_missing(nodes, 0, table.row_kind(s.component.row).number(), s.component.mark, s.component.given);
     put_presence(out, s.pre, s.bit, !missing);
 }
 

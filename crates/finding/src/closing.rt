@@ -9,6 +9,7 @@ use crate::passing::{pass_components, pass_elements};
 use crate::spot::Opening;
 use kinds::cursor::Cursor;
 use octets::faults::Fault;
+use table::kind::Kind;
 use table::sound::Table;
 
 // What stands behind the child in its group, whose own octets begin at `pre`.
@@ -24,8 +25,8 @@ pub fn pass_behind(
     requires { (row < length table.now.rows.now / row_width) × (at ≤ length msg.now) × (length msg.now ≤ 65535) × (pre ≤ length msg.now) × (o.component.row < row) × BehindFits table.now.rows.now table.now.items.now row o }
     ensures { Passed none msg.now (behind_of table.now.rows.now table.now.items.now msg.now row pre o (message (drop at msg.now) count)) result }
 {
-    if table.row_kind(row) == 10 {
-        return pass_components(
+    match table.row_kind(row) {
+        Kind::Sequence => pass_components(
             table,
             row,
             o.after,
@@ -35,7 +36,7 @@ pub fn pass_behind(
             o.later,
             at,
             count,
-        );
+        ),
+        _ => pass_elements(table, o.component.row, o.left, msg, at, count),
     }
-    pass_elements(table, o.component.row, o.left, msg, at, count)
 }

@@ -17,6 +17,7 @@ use octets::variable::read_quantity;
 use reading::parts::{count_marked, is_marked, is_padded};
 use reading::tags::find_tag;
 use table::component::ComponentType;
+use table::kind::Kind;
 use table::sound::Table;
 
 // Kind 10: preamble, then the components before the step's own (16.1).
@@ -156,17 +157,12 @@ fn open_group(
     requires { (row < length table.now.rows.now / row_width) × (at ≤ length msg.now) × (length msg.now ≤ 65535) × (count < 4096) }
     ensures { Opens table.now.rows.now table.now.items.now msg.now row at step (inside_at (type_of table.now.rows.now table.now.items.now row) msg.now at count) result }
 {
-    let kind = table.row_kind(row);
-    if kind < 10 {
-        return Ok(None);
+    match table.row_kind(row) {
+        Kind::Sequence => open_sequence(table, row, msg, at, count, step),
+        Kind::SequenceOf => open_sequence_of(table, row, msg, at, count, step),
+        Kind::Choice => open_choice(table, row, msg, at, count, step),
+        _ => Ok(None),
     }
-    if kind == 10 {
-        return open_sequence(table, row, msg, at, count, step);
-    }
-    if kind == 11 {
-        return open_sequence_of(table, row, msg, at, count, step);
-    }
-    open_choice(table, row, msg, at, count, step)
 }
 
 // A component with its mark and default, and presence bit b of the preamble at `pre`. Where it is not carried, or no

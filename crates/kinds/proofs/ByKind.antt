@@ -3,8 +3,7 @@
 use mathlib.Core.Path.{◌≡◌}
 use mathlib.Core.Bool.{true}
 use mathlib.Core.List.{List}
-use Prim.Native.Nat.{ℕ, ◌+◌, ◌/◌, ◌<◌, ◌≤◌}
-use native.Mathlib.Omega.{arith}
+use Prim.Native.Nat.{ℕ, ◌+◌, ◌/◌, ◌≤◌}
 use lib.ListN.{length}
 use lib.Dec.{eqb}
 use borrow.Author.Tests.{eqb-true, eqb-false}
@@ -16,19 +15,18 @@ use Rattle.x696.specs.Types.{leaf}
 use Rattle.x696.specs.Table.{row_kind, row_flags, row_a, row_b, row_first, row_count, item_width, numbers_from, type_by, type_of}
 use Rattle.x696.specs.TableFault.{row_sound}
 use Rattle.x696.proofs.TableLaws.{type_of_row}
-use Rattle.x696.proofs.TableRows.{kind_known, enumerated_row}
+use Rattle.x696.proofs.TableRows.{enumerated_row}
 use Rattle.table.specs.Orders.{Ascends}
-use Rattle.kinds.specs.Run.{ScalarAnswer, Ran, inside_at, leaf_at, text_leaf}
+use Rattle.table.specs.Kind.{code_of}
+use Rattle.table.proofs.KindNumbers.{kind_number}
+use Rattle.table.specs.declared.kind.Kind.{Kind}
+use Rattle.table.specs.declared.kind.Kind.TheVariants.{Boolean, Integer, Enumerated, Single, Double, Null}
+use Rattle.table.specs.declared.kind.Kind.TheVariants.{OctetString, BitString, VisibleString}
+use Rattle.kinds.specs.Run.{ScalarAnswer, Ran, inside_at, leaf_at}
 use Rattle.std.proofs.Common.{Result}
 use Rattle.octets.specs.declared.faults.Fault.{Fault}
 use Rattle.octets.specs.declared.answers.Number.{Number}
 use Rattle.kinds.specs.declared.cursor.Cursor.{Cursor}
-
-six : (k : ℕ) → 0 < k → k < 7 → (k ≡ 1 → ⊥) → (k ≡ 2 → ⊥) → (k ≡ 3 → ⊥) → (k ≡ 4 → ⊥) → (k ≡ 5 → ⊥) → k ≡ 6
-six k h g one two three four five = omega arith
-
-seven : (k : ℕ) → 6 < k → k < 10 → (k ≡ 8 → ⊥) → (k ≡ 9 → ⊥) → k ≡ 7
-seven k h g eight nine = omega arith
 
 module _ (rows items : List ℕ) (row : ℕ) where
   -- the answer for a row's type
@@ -42,55 +40,45 @@ module _ (rows items : List ℕ) (row : ℕ) where
       → ScalarAnswer msg (inside_at (type_of rows items row) msg at count) (row_kind rows row) at count r
   scalar_row e f w = rw (e, f) w
 
-  module _ {kind : ℕ} (ek : kind ≡ row_kind rows row) where
-    pub boolean_type : kind ≡ 1 → type_of rows items row ≡ leaf boolean
+  module _ {kind : Kind} (ek : code_of kind ≡ row_kind rows row) where
+    pub boolean_type : kind ≡ Boolean → type_of rows items row ≡ leaf boolean
     unfolding type_by choose
     boolean_type e = rw (type_of_row rows items row, ← ek, e)
 
-    pub single_type : kind ≡ 4 → type_of rows items row ≡ leaf (real binary32)
+    pub single_type : kind ≡ Single → type_of rows items row ≡ leaf (real binary32)
     unfolding type_by choose
     single_type e = rw (type_of_row rows items row, ← ek, e)
 
-    pub double_type : kind ≡ 5 → type_of rows items row ≡ leaf (real binary64)
+    pub double_type : kind ≡ Double → type_of rows items row ≡ leaf (real binary64)
     unfolding type_by choose
     double_type e = rw (type_of_row rows items row, ← ek, e)
 
-    -- the last of them is what is none of the others
-    pub null_kind : row_sound rows items row ≡ true → row_kind rows row < 7
-        → (kind ≡ 1 → ⊥) → (kind ≡ 2 → ⊥) → (kind ≡ 3 → ⊥) → (kind ≡ 4 → ⊥) → (kind ≡ 5 → ⊥) → kind ≡ 6
-    null_kind s h = six kind (rw ek (kind_known rows items row s).0) (rw ek h)
-
-    pub null_type : kind ≡ 6 → type_of rows items row ≡ leaf null
+    pub null_type : kind ≡ Null → type_of rows items row ≡ leaf null
     unfolding type_by choose
     null_type e = rw (type_of_row rows items row, ← ek, e)
 
-    module _ {first n : ℕ} (ef : first ≡ row_first rows row) (en : n ≡ row_count rows row) (e : kind ≡ 3) where
+    module _ {first n : ℕ} (ef : first ≡ row_first rows row) (en : n ≡ row_count rows row) (e : kind ≡ Enumerated) where
       pub listed_type : type_of rows items row ≡ leaf (enumerated (numbers_from items first n))
       unfolding type_by choose
       listed_type = rw (type_of_row rows items row, ← ek, e, ← ef, ← en)
 
       pub listed_range : row_sound rows items row ≡ true
           → (first + n ≤ length items / item_width) × Ascends items first n
-      listed_range s = let r = enumerated_row rows items row s (rw (← ek) e) in rw (ef, en) (r.range, r.ascends)
+      listed_range s = let r = enumerated_row rows items row s (kind_number ek e) in rw (ef, en) (r.range, r.ascends)
 
     module _ {f a b : ℕ} (ef : f ≡ row_flags rows row) (ea : a ≡ row_a rows row) (eb : b ≡ row_b rows row) where
-      pub integer_type : kind ≡ 2 → type_of rows items row ≡ leaf (integer f a b)
+      pub integer_type : kind ≡ Integer → type_of rows items row ≡ leaf (integer f a b)
       unfolding type_by choose
       integer_type e = rw (type_of_row rows items row, ← ek, e, ← ef, ← ea, ← eb)
 
-      pub octets_type : kind ≡ 7 → type_of rows items row ≡ leaf (octet_string f a b)
+      pub octets_type : kind ≡ OctetString → type_of rows items row ≡ leaf (octet_string f a b)
       unfolding type_by choose
       octets_type e = rw (type_of_row rows items row, ← ek, e, ← ef, ← ea, ← eb)
 
-      pub bits_type : kind ≡ 8 → type_of rows items row ≡ leaf (bit_string f a b)
+      pub bits_type : kind ≡ BitString → type_of rows items row ≡ leaf (bit_string f a b)
       unfolding type_by choose
       bits_type e = rw (type_of_row rows items row, ← ek, e, ← ef, ← ea, ← eb)
 
-      -- the other strings: VisibleString is 9, and OCTET STRING what is none of the others
-      pub text_type : 6 < kind → kind < 10 → (kind ≡ 8 → ⊥)
-          → type_of rows items row ≡ leaf (text_leaf (eqb kind 9) f a b)
-      unfolding text_leaf type_by choose
-      text_type g h eight =
-          cases (eqb kind 9)
-          (λ t. let e : kind ≡ 9 = eqb-true kind 9 t in rw (t, type_of_row rows items row, ← ek, e, ← ef, ← ea, ← eb))
-          (λ t. rw t (octets_type (seven kind g h eight (eqb-false kind 9 t))))
+      pub visible_type : kind ≡ VisibleString → type_of rows items row ≡ leaf (visible_string f a b)
+      unfolding type_by choose
+      visible_type e = rw (type_of_row rows items row, ← ek, e, ← ef, ← ea, ← eb)

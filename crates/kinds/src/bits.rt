@@ -12,6 +12,7 @@ use octets::presence::low_bits_clear;
 use octets::units::Bits;
 use octets::words::{copy, octet};
 use table::bounds::Bounds;
+use table::kind::Kind;
 
 // A fixed size (13.2).
 fn fixed_bits(
@@ -35,7 +36,7 @@ fn fixed_bits(
     if !low_bits_clear(msg, at, n as usize, size.unused() as usize) {
         return Err(Cause::NotCanonical.at(at));
     }
-    put_node(nodes, count, 8, size.0);
+    put_node(nodes, count, Kind::BitString.number(), size.0);
     copy(msg, at, n as usize, contents, used);
     Ok(Cursor {
         at: at + n as usize,
@@ -82,7 +83,7 @@ fn bits_in(
     if !bounds.allows_size(size) {
         return Err(Cause::NotAllowed.at(at));
     }
-    put_node(nodes, count, 8, size);
+    put_node(nodes, count, Kind::BitString.number(), size);
     copy(msg, start + 1, k, contents, used);
     Ok(Cursor {
         at: start + n,

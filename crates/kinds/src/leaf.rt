@@ -13,7 +13,8 @@ use crate::real::{Double, Single, read_real};
 use crate::text::read_text;
 use octets::answers::Number;
 use octets::faults::{Cause, Fault};
-use table::words::{row_bounds, row_count, row_first, row_kind};
+use table::kind::Kind;
+use table::words::{known_kind, row_bounds, row_count, row_first};
 
 // Kinds 1 to 6: a number, and where the next octet stands. The caller stores the node.
 pub fn read_scalar(
@@ -26,30 +27,21 @@ pub fn read_scalar(
     requires { (row < length rows.now / row_width) × (row_sound rows.now items.now row ≡ true) × (row_kind rows.now row < 7) × (at ≤ length msg.now) }
     ensures { (count : ℕ) → ScalarAnswer msg.now (inside_at (type_of rows.now items.now row) msg.now at count) (row_kind rows.now row) at count result }
 {
-    let kind = row_kind(rows, row);
-    if kind == 1 {
-        return read_boolean(msg, at);
-    }
-    if kind == 2 {
-        return read_integer(row_bounds(rows, row), msg, at);
-    }
-    if kind == 3 {
-        return read_listed(
+    match known_kind(rows, row) {
+        Kind::Boolean => read_boolean(msg, at),
+        Kind::Integer => read_integer(row_bounds(rows, row), msg, at),
+        Kind::Enumerated => read_listed(
             items,
             row_first(rows, row) as usize,
             row_count(rows, row) as usize,
             msg,
             at,
-        );
+        ),
+        Kind::Single => read_real::<Single>(msg, at),
+        Kind::Double => read_real::<Double>(msg, at),
+        // NULL, the only other one: no octets (15)
+        _ => Ok(Number { value: 0, next: at }),
     }
-    if kind == 4 {
-        return read_real::<Single>(msg, at);
-    }
-    if kind == 5 {
-        return read_real::<Double>(msg, at);
-    }
-    // NULL: no octets (15)
-    Ok(Number { value: 0, next: at })
 }
 
 // Kinds 7 to 9: the node and the contents are stored.
@@ -67,10 +59,11 @@ pub fn read_string(
     requires { (row < length rows.now / row_width) × (6 < row_kind rows.now row) × (row_kind rows.now row < 10) × (count < 4096) × (at ≤ length msg.now) × (used ≤ at) × (length msg.now ≤ 65535) }
     ensures { Ran msg.now (inside_at (type_of rows.now items.now row) msg.now at count) at count used nodes.old contents.old nodes.new contents.new result }
 {
-    let kind = row_kind(rows, row);
     let bounds = row_bounds(rows, row);
-    if kind == 8 {
-        return read_bits(bounds, msg, at, count, used, nodes, contents);
+    match known_kind(rows, row) {
+        Kind::OctetString => read_text(false, bounds, msg, at, count, used, nodes, contents),
+        Kind::BitString => read_bits(bounds, msg, at, count, used, nodes, contents),
+        // VisibleString, the only other one
+        _ => read_text(true, bounds, msg, at, count, used, nodes, contents),
     }
-    read_text(kind == 9, bounds, msg, at, count, used, nodes, contents)
 }

@@ -12,6 +12,7 @@ use octets::nodes::put_node;
 use octets::strings::is_visible;
 use octets::words::copy;
 use table::bounds::Bounds;
+use table::kind::Kind;
 
 // The contents: alone where the size is fixed (14.1), else behind a length determinant (14.2).
 fn run_of(bounds: Bounds, msg: &[u8], at: usize) -> Result<Piece, Fault>

@@ -118,7 +118,11 @@ pub fn missing_kind(table: &Table, row: usize, mark: u64) -> u64
     requires { row < length table.now.rows.now / row_width }
     ensures { result ≡ cond (eqb mark 1) 0 (row_kind table.now.rows.now row) }
 {
-    if mark == 1 { 0 } else { table.row_kind(row) }
+    if mark == 1 {
+        0
+    } else {
+        table.row_kind(row).number()
+    }
 }
 
 // Whether a component that is carried has the number of its DEFAULT, which item i gives (31.9).

@@ -20,6 +20,7 @@ use octets::faults::{Cause, Fault};
 use octets::nodes::put_node;
 use octets::tags::read_tag;
 use octets::variable::read_quantity;
+use table::kind::Kind;
 use table::sound::Table;
 
 // A value of a row at octet `at`, with `count` nodes and `used` contents octets before it: a member alone.
@@ -173,18 +174,23 @@ fn read_row(
         return Err(Cause::Nodes.at(at));
     }
     let kind = table.row_kind(row);
-    if kind < 7 {
-        let x = read_scalar(table.rows, table.items, row, msg, at)?;
-        put_node(nodes, count, kind, x.value);
-        return Ok(Cursor {
-            at: x.next,
-            count: count + 1,
-            used,
-            number: x.value,
-        });
-    }
-    if kind < 10 {
-        return read_string(
+    match kind {
+        Kind::Boolean
+        | Kind::Integer
+        | Kind::Enumerated
+        | Kind::Single
+        | Kind::Double
+        | Kind::Null => {
+            let x = read_scalar(table.rows, table.items, row, msg, at)?;
+            put_node(nodes, count, kind.number(), x.value);
+            Ok(Cursor {
+                at: x.next,
+                count: count + 1,
+                used,
+                number: x.value,
+            })
+        }
+        Kind::OctetString | Kind::BitString | Kind::VisibleString => read_string(
             table.rows,
             table.items,
             row,
@@ -194,15 +200,11 @@ fn read_row(
             used,
             nodes,
             contents,
-        );
+        ),
+        Kind::Sequence => read_sequence(table, row, msg, at, count, used, nodes, contents),
+        Kind::SequenceOf => read_sequence_of(table, row, msg, at, count, used, nodes, contents),
+        Kind::Choice => read_choice(table, row, msg, at, count, used, nodes, contents),
     }
-    if kind == 10 {
-        return read_sequence(table, row, msg, at, count, used, nodes, contents);
-    }
-    if kind == 11 {
-        return read_sequence_of(table, row, msg, at, count, used, nodes, contents);
-    }
-    read_choice(table, row, msg, at, count, used, nodes, contents)
 }
 
 // Kind 10: preamble, components (16.1).
@@ -222,7 +224,7 @@ fn read_sequence(
 {
     let first = table.row_first(row);
     let n = table.row_count(row);
-    put_node(nodes, count, 10, n as u64);
+    put_node(nodes, count, Kind::Sequence.number(), n as u64);
     let bits = count_marked(table, first, n);
     // `div_ceil` would be five instructions in place of two, here and below
     if msg.len() - at < (bits + 7) / 8 {
@@ -272,7 +274,7 @@ fn read_sequence_of(
     let inner = table.component_row(table.row_first(row));
     let q = read_quantity(msg, at, at)?;
     let n = q.many.0;
-    put_node(nodes, count, 11, n);
+    put_node(nodes, count, Kind::SequenceOf.number(), n);
     let d = read_members(
         table,
         row,
@@ -314,7 +316,7 @@ fn read_choice(
     let Some(k) = find_tag(table, first, n, g.class, g.number) else {
         return Err(Cause::NotAllowed.at(at));
     };
-    put_node(nodes, count, 12, k as u64);
+    put_node(nodes, count, Kind::Choice.number(), k as u64);
     let d = read_members(
         table,
         row,

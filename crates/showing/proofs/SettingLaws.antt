@@ -11,7 +11,9 @@ use mir.Syntax.{w64}
 use lib.Ieee.{Float, of_bits, binary32 as single, binary64 as double}
 use mir.Val.{to_z, of_z, SFits}
 use mir.ValLaws.{to_z-of_z}
-use borrow.Author.Tests.{ne_eqb}
+use Rattle.std.specs.Prelude.{◌⊎◌}
+use Rattle.std.proofs.Math.Logic.{⊎_elim}
+use Rattle.x696.proofs.OutcomeLaws.{cases_lt}
 use Rattle.x696.specs.Outcome.{choose}
 use Rattle.x696.specs.Integer.{is_unsigned}
 use Rattle.x696.specs.Real.{binary32, real_octets}
@@ -29,6 +31,9 @@ use Rattle.x696.specs.TableCheck.{default_sound}
 use Rattle.x696.proofs.TableLaws.{type_of_row}
 use Rattle.x696.specs.Editing.{Place, place_in, read_setting}
 use Rattle.kinds.specs.Run.{number_of}
+use Rattle.table.specs.Kind.{code_of}
+use Rattle.table.specs.declared.kind.Kind.{Kind}
+use Rattle.table.specs.declared.kind.Kind.TheVariants.{Single as SingleKind}
 use Rattle.kinds.proofs.ByKind.{single_type}
 use Rattle.decoding.specs.Replied.{Refuses}
 use Rattle.finding.specs.Passing.{Fitting}
@@ -124,7 +129,7 @@ module _ (rows items : List ℕ) (row : ℕ) (msg path : List ℕ) where
         ) refl
 
     -- the bits of a single real
-    pub single_small : {k : ℕ} → w.spot.absent ≡ false → k ≡ row_kind rows w.spot.component.row → k ≡ 4
+    pub single_small : {k : Kind} → w.spot.absent ≡ false → code_of k ≡ row_kind rows w.spot.component.row → k ≡ SingleKind
         → w.spot.number < 2 ^ 32
     unfolding default_sound
     single_small e ek four =
@@ -170,44 +175,23 @@ module _ (k f a n : ℕ) where
   unfolding setting_as kind_setting choose
   kind_five e h = rw (e, h) refl
 
-  pub kind_seven : k ≡ 7 → Size n ≡ setting_as (kind_setting k f a n)
+  pub kind_six : k ≡ 6 → Group 0 ≡ setting_as (kind_setting k f a n)
   unfolding setting_as kind_setting choose
-  kind_seven e = rw e refl
+  kind_six e = rw e refl
 
-  pub kind_eight : k ≡ 8 → Size n ≡ setting_as (kind_setting k f a n)
+  pub kind_string : (6 < k) × (k < 10) → Size n ≡ setting_as (kind_setting k f a n)
   unfolding setting_as kind_setting choose
-  kind_eight e = rw e refl
+  kind_string (more, less) =
+      cases_lt k 8
+      (λ _ l. let e : k ≡ 7 = omega arith in rw e refl)
+      (λ _ g. cases_lt k 9
+      (λ _ l. let e : k ≡ 8 = omega arith in rw e refl)
+      (λ _ g. let e : k ≡ 9 = omega arith in rw e refl))
 
-  pub kind_nine : k ≡ 9 → Size n ≡ setting_as (kind_setting k f a n)
+  pub kind_group : (k ≡ 10) ⊎ (k ≡ 11) → Group n ≡ setting_as (kind_setting k f a n)
   unfolding setting_as kind_setting choose
-  kind_nine e = rw e refl
-
-  pub kind_ten : k ≡ 10 → Group n ≡ setting_as (kind_setting k f a n)
-  unfolding setting_as kind_setting choose
-  kind_ten e = rw e refl
-
-  pub kind_eleven : k ≡ 11 → Group n ≡ setting_as (kind_setting k f a n)
-  unfolding setting_as kind_setting choose
-  kind_eleven e = rw e refl
+  kind_group = ⊎_elim (λ e. rw e refl) (λ e. rw e refl)
 
   pub kind_twelve : k ≡ 12 → Group 1 ≡ setting_as (kind_setting k f a n)
   unfolding setting_as kind_setting choose
   kind_twelve e = rw e refl
-
-  pub kind_none : (k ≡ 1 → ⊥) → (k ≡ 2 → ⊥) → (k ≡ 3 → ⊥) → (k ≡ 4 → ⊥) → (k ≡ 5 → ⊥) → (k ≡ 7 → ⊥) → (k ≡ 8 → ⊥)
-      → (k ≡ 9 → ⊥) → (k ≡ 10 → ⊥) → (k ≡ 11 → ⊥) → (k ≡ 12 → ⊥) → Group 0 ≡ setting_as (kind_setting k f a n)
-  unfolding setting_as kind_setting choose
-  kind_none one two three four five seven eight nine ten eleven twelve =
-      rw (
-        ne_eqb k 1 one,
-        ne_eqb k 2 two,
-        ne_eqb k 3 three,
-        ne_eqb k 4 four,
-        ne_eqb k 5 five,
-        ne_eqb k 7 seven,
-        ne_eqb k 8 eight,
-        ne_eqb k 9 nine,
-        ne_eqb k 10 ten,
-        ne_eqb k 11 eleven,
-        ne_eqb k 12 twelve,
-      ) refl

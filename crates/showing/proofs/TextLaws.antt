@@ -7,7 +7,9 @@ use Prim.Native.Nat.{ℕ, suc, ◌+◌, ◌-◌, ◌≤◌}
 use native.Mathlib.Omega.{arith}
 use lib.ListN.{length, length-append, take, drop}
 use lib.Dec.{eqb}
-use borrow.Author.Tests.{eq-eqb, ne_eqb, eqb-true, eqb-false}
+use borrow.Author.Tests.{ne_eqb}
+use Rattle.std.specs.Prelude.{◌⊎◌}
+use Rattle.std.proofs.Math.Logic.{⊎_elim}
 use Rattle.x696.specs.Outcome.{choose}
 use Rattle.x696.proofs.OutcomeLaws.{cases}
 use Rattle.x696.specs.Length.{length_octets}
@@ -23,12 +25,15 @@ use Rattle.x696.specs.Setting.{Setting as Meant, string_size, leaf_setting, type
 use Rattle.x696.specs.Setting.{fallback, part_of, shown_string, shown_if}
 use Rattle.x696.specs.Reply.{Answer, answer}
 use Rattle.x696.specs.Path.{octets_before}
-use Rattle.x696.specs.Table.{row_kind, row_flags, row_a, row_b, type_by, type_of}
-use Rattle.x696.proofs.TableLaws.{type_of_row}
+use Rattle.x696.specs.Table.{row_kind, type_of}
 use Rattle.x696.specs.TableCheck.{default_sound}
 use Rattle.x696.specs.Editing.{Place, place_in, shown_at, show_text, shown_octets}
 use Rattle.kinds.specs.Run.{number_of}
-use Rattle.kinds.proofs.ByKind.{octets_type, bits_type}
+use Rattle.kinds.proofs.ByKind.{octets_type, bits_type, visible_type}
+use Rattle.table.specs.Kind.{code_of}
+use Rattle.table.specs.declared.kind.Kind.{Kind}
+use Rattle.table.specs.declared.kind.Kind.TheVariants.{OctetString, BitString, VisibleString}
+use Rattle.table.proofs.KindNumbers.{kind_once}
 use Rattle.decoding.specs.Replied.{Refuses}
 use Rattle.finding.specs.Following.{kind_in}
 use Rattle.finding.specs.Placing.{Placed}
@@ -134,12 +139,10 @@ part_shown : (before : ℕ) (t : Ty) (v : Val) {size : ℕ} → IsString t v siz
 unfolding shown_if shown_string string_octets number_of
 part_shown before t (node k n os vs) s e = rw (there_setting t (node k n os vs) e, s.setting n, s.many) refl
 
-visible_type : (rows items : List ℕ) (row : ℕ) {k : ℕ} → k ≡ row_kind rows row → k ≡ 9
-    → type_of rows items row ≡ leaf (visible_string (row_flags rows row) (row_a rows row) (row_b rows row))
-unfolding type_by choose
-visible_type rows items row ek e = rw (type_of_row rows items row, ← ek, e) refl
-
 -- ---- the string at a path
+abbrev AString : Kind → Type 0
+AString k = (k ≡ OctetString) ⊎ (k ≡ BitString) ⊎ (k ≡ VisibleString)
+
 module _ (rows items : List ℕ) (row : ℕ) (msg path : List ℕ) where
   abbrev asked : Answer Place
   asked = place_in rows items row msg path
@@ -166,72 +169,68 @@ module _ (rows items : List ℕ) (row : ℕ) (msg path : List ℕ) where
     unfolding shown_if
     text_absent e = shown_is ∙ rw (absent_setting_lem t v (sym h.spot.absent ∙ e)) refl
 
-    module _ (e : w.spot.absent ≡ false) {k : ℕ} (ek : k ≡ row_kind rows w.spot.component.row) where
-      there : eqb (kind_in v) 0 ≡ false
-      there = sym h.spot.absent ∙ e
+    there : w.spot.absent ≡ false → eqb (kind_in v) 0 ≡ false
+    there e = sym h.spot.absent ∙ e
 
-      pub text_other : (k ≡ 7 → ⊥) → (k ≡ 8 → ⊥) → (k ≡ 9 → ⊥) → show_text rows items row msg path ≡ fallback
-      text_other seven eight nine =
+    module _ (e : w.spot.absent ≡ false) {k : Kind} (ek : code_of k ≡ row_kind rows w.spot.component.row) where
+      pub text_other : (k ≡ OctetString → ⊥) → (k ≡ BitString → ⊥) → (k ≡ VisibleString → ⊥)
+          → show_text rows items row msg path ≡ fallback
+      text_other octets bits visible =
           shown_is
-          ∙ rw (there_setting t v there, kind_setting_lem rows items w.spot.component.row (number_of v), ← ek)
-          (no_string before t v k _ _ (number_of v) seven eight nine)
+          ∙ rw (there_setting t v (there e), kind_setting_lem rows items w.spot.component.row (number_of v), ← ek)
+          (no_string before t v (code_of k) _ _ (number_of v) (λ q. octets (kind_once k OctetString q))
+          (λ q. bits (kind_once k BitString q)) (λ q. visible (kind_once k VisibleString q)))
 
-      string_is : 7 ≤ k → k ≤ 9 → IsString t v (contents_size k (number_of v))
+      string_is : AString k → IsString t v (contents_size (code_of k) (number_of v))
       unfolding contents_size default_sound
-      string_is low high =
-          cases (eqb k 7)
+      string_is =
+          ⊎_elim
           (λ q.
-          let seven : k ≡ 7 = eqb-true k 7 q in
-          let is = octets_type rows items w.spot.component.row ek refl refl refl seven in
-          rw (is, seven) (octets_string (rw is at (component_there rows items row msg path h e (λ d. rw is refl)).0)))
+          let is = octets_type rows items w.spot.component.row ek refl refl refl q in
+          rw (is, q) (octets_string (rw is at (component_there rows items row msg path h e (λ d. rw is refl)).0)))
+          (⊎_elim
           (λ q.
-          let seven = eqb-false k 7 q in
-          cases (eqb k 8)
+          let is = bits_type rows items w.spot.component.row ek refl refl refl q in
+          rw (is, q) (bits_string (rw is at (component_there rows items row msg path h e (λ d. rw is refl)).0)))
           (λ q.
-          let eight : k ≡ 8 = eqb-true k 8 q in
-          let is = bits_type rows items w.spot.component.row ek refl refl refl eight in
-          rw (is, eight) (bits_string (rw is at (component_there rows items row msg path h e (λ d. rw is refl)).0)))
-          (λ q.
-          let eight = eqb-false k 8 q in
-          let nine : k ≡ 9 = omega arith in
-          let is = visible_type rows items w.spot.component.row ek nine in
-          rw (is, nine) (visible_string_lem (rw is at (component_there rows items row msg path h e (λ d. rw is refl)).0))))
+          let is = visible_type rows items w.spot.component.row ek refl refl refl q in
+          rw (is, q) (visible_string_lem (rw is at (component_there rows items row msg path h e (λ d. rw is refl)).0))))
 
-      module _ (low : 7 ≤ k) (high : k ≤ 9) {size : ℕ} (es : size ≡ contents_size k w.spot.number) where
-        size_is : size ≡ contents_size k (number_of v)
-        size_is = es ∙ ap (contents_size k) h.spot.number
+      module _ (one : AString k) {size : ℕ} (es : size ≡ contents_size (code_of k) w.spot.number) where
+        size_is : size ≡ contents_size (code_of k) (number_of v)
+        size_is = es ∙ ap (contents_size (code_of k)) h.spot.number
 
         long : w.spot.end ≡ before + length (encode t v)
         long =
-            let own = (component_there rows items row msg path h e (string_is low high).plain).1 in
+            let own = (component_there rows items row msg path h e (string_is one).plain).1 in
             omega (arith, h.spot.start, h.spot.end, ap length own)
 
         pub text_fits : size ≤ w.spot.end
-        text_fits = omega (arith, long, size_is, (string_is low high).last)
+        text_fits = omega (arith, long, size_is, (string_is one).last)
 
         pub text_part : PartOf msg (show_text rows items row msg path)
             (record { start = w.spot.end - size; end = w.spot.end })
         text_part =
-            let s = string_is low high in
-            let a : before + (length (encode t v) - contents_size k (number_of v)) ≡ w.spot.end - size =
+            let s = string_is one in
+            let a : before + (length (encode t v) - contents_size (code_of k) (number_of v)) ≡ w.spot.end - size =
             omega (arith, long, size_is, s.last) in
-            let b : contents_size k (number_of v) ≡ w.spot.end - (w.spot.end - size) =
+            let b : contents_size (code_of k) (number_of v) ≡ w.spot.end - (w.spot.end - size) =
             omega (arith, size_is, text_fits) in
             record {
-              is = shown_is ∙ part_shown before t v s there
-                  ∙ ap (λ x. part_of x (contents_size k (number_of v))) a ∙ ap (part_of (w.spot.end - size)) b;
+              is = shown_is ∙ part_shown before t v s (there e)
+                  ∙ ap (λ x. part_of x (contents_size (code_of k) (number_of v))) a ∙ ap (part_of (w.spot.end - size)) b;
               ordered = omega arith;
               inside = h.inside;
             }
 
 -- ---- the sizes and octets that the code hands out
-pub bits_size : (k n : ℕ) {r : ℕ} → k ≡ 8 → r ≡ bit_octets n → r ≡ contents_size k n
+pub bits_size : (k : Kind) (n : ℕ) {r : ℕ} → k ≡ BitString → r ≡ bit_octets n → r ≡ contents_size (code_of k) n
 unfolding contents_size
-bits_size k n e h = rw (eq-eqb k 8 e) h
+bits_size k n e h = rw e h
 
-pub other_size : (k n : ℕ) → (k ≡ 8 → ⊥) → n ≡ contents_size k n
+pub other_size : (k : Kind) (n : ℕ) → (k ≡ BitString → ⊥) → n ≡ contents_size (code_of k) n
 unfolding contents_size
-other_size k n e = rw (ne_eqb k 8 e) refl
+other_size k n e = rw (ne_eqb (code_of k) 8 (λ q. e (kind_once k BitString q))) refl
 
 pub fallback_shown : (msg other : List ℕ) (s : MeantText) → s ≡ fallback → other ≡ shown_octets s msg other
 unfolding shown_octets

@@ -1,13 +1,16 @@
 // A single setting: the component at a path, read by its type (document 01, "Editing and reading by path").
 ghost use Rattle.std.specs.Prelude.{◌≡◌, ◌^◌, ◌<◌};
 ghost use Rattle.x696.specs.Editing.{read_setting};
+ghost use Rattle.table.specs.Kind.{code_of};
+ghost use Rattle.table.specs.declared.kind.Kind.TheVariants.{Single};
 ghost use Rattle.showing.specs.Settings.{integer_setting, kind_setting, setting_as, answer_as, told};
 
 use crate::numbers::{double_of, signed_of, single_of};
 use finding::places::find_in;
 use octets::faults::Refusal;
 use table::bounds::Bounds;
-use table::words::{row_bounds, row_kind};
+use table::kind::Kind;
+use table::words::{known_kind, row_bounds};
 
 #[derive(Clone, Copy)]
 pub enum Setting {
@@ -33,23 +36,20 @@ fn integer_setting(bounds: Bounds, number: u64) -> Setting
 }
 
 // The setting of a value that is there, by its row's kind.
-fn setting_of(kind: u64, bounds: Bounds, number: u64) -> Setting
-    requires { kind ≡ 4 → number < 2 ^ 32 }
-    ensures { result ≡ setting_as (kind_setting kind bounds.flags bounds.a number) }
+fn setting_of(kind: Kind, bounds: Bounds, number: u64) -> Setting
+    requires { kind ≡ Single → number < 2 ^ 32 }
+    ensures { result ≡ setting_as (kind_setting (code_of kind) bounds.flags bounds.a number) }
 {
     match kind {
-        1 => Setting::Truth(number == 1),
-        2 => integer_setting(bounds, number),
-        3 => Setting::Signed(signed_of(number)),
-        4 => Setting::Single(single_of(number as u32)),
-        5 => Setting::Double(double_of(number)),
-        7 => Setting::Size(number),
-        8 => Setting::Size(number),
-        9 => Setting::Size(number),
-        10 => Setting::Group(number),
-        11 => Setting::Group(number),
-        12 => Setting::Group(1),
-        _ => Setting::Group(0),
+        Kind::Boolean => Setting::Truth(number == 1),
+        Kind::Integer => integer_setting(bounds, number),
+        Kind::Enumerated => Setting::Signed(signed_of(number)),
+        Kind::Single => Setting::Single(single_of(number as u32)),
+        Kind::Double => Setting::Double(double_of(number)),
+        Kind::Null => Setting::Group(0),
+        Kind::OctetString | Kind::BitString | Kind::VisibleString => Setting::Size(number),
+        Kind::Sequence | Kind::SequenceOf => Setting::Group(number),
+        Kind::Choice => Setting::Group(1),
     }
 }
 
@@ -68,5 +68,5 @@ pub fn read_setting(
     if s.absent {
         return Ok(Setting::Absent);
     }
-    Ok(setting_of(row_kind(rows, s.component.row), row_bounds(rows, s.component.row), s.number))
+    Ok(setting_of(known_kind(rows, s.component.row), row_bounds(rows, s.component.row), s.number))
 }

@@ -1,11 +1,13 @@
 // A string at a path, shown as the part of the message that holds its octets, or the caller's whole fallback text.
 ghost use Rattle.std.specs.Prelude.{◌≡◌, ◌+◌, ◌-◌, ◌<◌, ◌≤◌, length};
 ghost use Rattle.x696.specs.Editing.{show_text, shown_octets};
+ghost use Rattle.table.specs.Kind.{code_of};
 ghost use Rattle.showing.specs.Texts.{contents_size, TextAnswer};
 
 use finding::places::find_in;
 use octets::units::Bits;
-use table::words::row_kind;
+use table::kind::Kind;
+use table::words::known_kind;
 
 // A part of the message.
 #[derive(Clone, Copy)]
@@ -15,13 +17,13 @@ pub struct Part {
 }
 
 // How many octets the contents of a string fill, by its row's kind and its number; 0 for other kinds.
-fn contents_size(kind: u64, number: u64) -> u64
-    ensures { result ≡ contents_size kind number }
+fn contents_size(kind: Kind, number: u64) -> u64
+    ensures { result ≡ contents_size (code_of kind) number }
 {
-    if kind == 8 {
-        return Bits(number).octets().0;
+    match kind {
+        Kind::BitString => Bits(number).octets().0,
+        _ => number,
     }
-    number
 }
 
 // Where the string at a path stands in the message, without its unused-bits octet: a string's contents are the last of
@@ -36,17 +38,14 @@ pub fn find_text(rows: &[u64], items: &[u64], row: u64, msg: &[u8], path: &[u64]
             if s.absent {
                 return None;
             }
-            let kind = row_kind(rows, s.component.row);
-            if kind < 7 {
-                return None;
+            let kind = known_kind(rows, s.component.row);
+            match kind {
+                Kind::OctetString | Kind::BitString | Kind::VisibleString => Some(Part {
+                    start: s.end - contents_size(kind, s.number) as usize,
+                    end: s.end,
+                }),
+                _ => None,
             }
-            if 9 < kind {
-                return None;
-            }
-            Some(Part {
-                start: s.end - contents_size(kind, s.number) as usize,
-                end: s.end,
-            })
         }
     }
 }

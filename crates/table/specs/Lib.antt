@@ -1,4 +1,5 @@
 pub mod Replies
+pub mod Kind
 pub mod Orders
 pub mod Judged
 pub mod Checked

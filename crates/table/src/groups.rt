@@ -6,11 +6,12 @@ ghost use Rattle.x696.specs.TableCheck.{alternative_sound, tag_before, choice_so
 ghost use Rattle.x696.specs.TableFault.{row_sound};
 ghost use Rattle.table.specs.Orders.{SoundBelow};
 
+use crate::kind::Kind;
 use crate::numbers::is_listed;
 use crate::rules::{no_bounds, range_inside, rest_zero};
 use crate::words::{
-    alternative_row, component_default, component_mark, component_row, row_bounds, row_count,
-    row_first, row_kind, tag_class, tag_number,
+    alternative_row, component_default, component_mark, component_row, known_kind, row_bounds,
+    row_count, row_first, tag_class, tag_number,
 };
 
 // Whether d is a DEFAULT of row k: kinds 1, 2 and 3 (an allowed value) and 11 (0, the empty list).
@@ -19,16 +20,16 @@ fn default_sound(rows: &[u64], items: &[u64], k: usize, d: u64) -> bool
     requires { (k < length rows.now / row_width) × (row_sound rows.now items.now k ≡ true) }
     ensures { result ≡ default_sound (type_of rows.now items.now k) d }
 {
-    match row_kind(rows, k) {
-        1 => d < 2,
-        2 => row_bounds(rows, k).allows(d),
-        3 => is_listed(
+    match known_kind(rows, k) {
+        Kind::Boolean => d < 2,
+        Kind::Integer => row_bounds(rows, k).allows(d),
+        Kind::Enumerated => is_listed(
             items,
             row_first(rows, k) as usize,
             row_count(rows, k) as usize,
             d,
         ),
-        11 => d == 0,
+        Kind::SequenceOf => d == 0,
         _ => false,
     }
 }

@@ -5,6 +5,7 @@ pub mod bounds;
 pub mod check;
 pub mod component;
 pub mod groups;
+pub mod kind;
 pub mod nestings;
 pub mod numbers;
 pub mod reply;

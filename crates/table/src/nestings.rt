@@ -8,8 +8,11 @@ ghost use Rattle.table.specs.Judged.{judged_row, SoundRows};
 ghost use Rattle.table.specs.Orders.{SoundBelow};
 
 use crate::groups::{choice_sound, sequence_of_sound, sequence_sound};
+use crate::kind::Kind;
 use crate::rules::{enumerated_sound, integer_sound, no_bounds, no_range, string_sound};
-use crate::words::{ALTERNATIVE_ROW, COMPONENT_ROW, item_word, row_count, row_first, row_kind};
+use crate::words::{
+    ALTERNATIVE_ROW, COMPONENT_ROW, item_word, known_kind, row_count, row_first, row_kind,
+};
 
 // The rules of a row but for its nesting, where the smaller rows keep theirs.
 #[tactic(auto, unfolding(x696::specs::TableFault::row_sound, x696::specs::TableCheck::given, x696::specs::Outcome::choose))]
@@ -17,15 +20,19 @@ fn row_sound(rows: &[u64], items: &[u64], row: usize) -> bool
     requires { (row < length rows.now / row_width) × SoundBelow rows.now items.now row }
     ensures { result ≡ row_sound rows.now items.now row }
 {
-    match row_kind(rows, row) {
-        1 | 4..=6 => no_bounds(rows, items, row) && no_range(rows, items, row),
-        2 => integer_sound(rows, items, row),
-        3 => enumerated_sound(rows, items, row),
-        7..=9 => string_sound(rows, items, row),
-        10 => sequence_sound(rows, items, row),
-        11 => sequence_of_sound(rows, items, row),
-        12 => choice_sound(rows, items, row),
-        _ => false,
+    match Kind::try_from(row_kind(rows, row)) {
+        Ok(Kind::Boolean | Kind::Single | Kind::Double | Kind::Null) => {
+            no_bounds(rows, items, row) && no_range(rows, items, row)
+        }
+        Ok(Kind::Integer) => integer_sound(rows, items, row),
+        Ok(Kind::Enumerated) => enumerated_sound(rows, items, row),
+        Ok(Kind::OctetString | Kind::BitString | Kind::VisibleString) => {
+            string_sound(rows, items, row)
+        }
+        Ok(Kind::Sequence) => sequence_sound(rows, items, row),
+        Ok(Kind::SequenceOf) => sequence_of_sound(rows, items, row),
+        Ok(Kind::Choice) => choice_sound(rows, items, row),
+        Err(_unknown) => false,
     }
 }
 
@@ -48,9 +55,11 @@ fn row_nesting(rows: &[u64], items: &[u64], row: usize, nestings: &[u8; 256]) ->
 {
     let first = row_first(rows, row) as usize;
     let n = row_count(rows, row) as usize;
-    match row_kind(rows, row) {
-        10 | 11 => u64::from(greatest_nesting(items, first, n, COMPONENT_ROW, nestings)) + 1,
-        12 => u64::from(greatest_nesting(items, first, n, ALTERNATIVE_ROW, nestings)) + 1,
+    match known_kind(rows, row) {
+        Kind::Sequence | Kind::SequenceOf => {
+            u64::from(greatest_nesting(items, first, n, COMPONENT_ROW, nestings)) + 1
+        }
+        Kind::Choice => u64::from(greatest_nesting(items, first, n, ALTERNATIVE_ROW, nestings)) + 1,
         _ => 1,
     }
 }

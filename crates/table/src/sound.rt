@@ -7,9 +7,10 @@ ghost use Rattle.x696.specs.SoundTable.{SoundTable};
 
 use crate::bounds::Bounds;
 use crate::check::{TableFault, judge};
+use crate::kind::Kind;
 use crate::words::{
-    alternative_row, component_default, component_mark, component_row, row_bounds, row_count,
-    row_first, row_kind, tag_class, tag_number,
+    alternative_row, component_default, component_mark, component_row, known_kind, row_bounds,
+    row_count, row_first, tag_class, tag_number,
 };
 
 #[derive(Clone, Copy)]
@@ -21,6 +22,7 @@ pub struct Table<'a> {
 
 impl<'a> Table<'a> {
     ghost use Rattle.table.specs.Checked.{Checked};
+    ghost use Rattle.table.specs.Kind.{code_of};
 
     // The table of these rows and items, if its check finds no fault.
     pub fn checked(rows: &'a [u64], items: &'a [u64]) -> Result<Self, TableFault>
@@ -30,11 +32,11 @@ impl<'a> Table<'a> {
         Ok(Table { rows, items })
     }
 
-    pub fn row_kind(&self, row: usize) -> u64
+    pub fn row_kind(&self, row: usize) -> Kind
         requires { row < length self.now.rows.now / row_width }
-        ensures { result ≡ row_kind self.now.rows.now row }
+        ensures { code_of result ≡ row_kind self.now.rows.now row }
     {
-        row_kind(self.rows, row)
+        known_kind(self.rows, row)
     }
 
     pub fn row_bounds(&self, row: usize) -> Bounds

@@ -2,9 +2,11 @@
 ghost use Rattle.std.specs.Prelude.{◌≡◌, ◌+◌, ◌*◌, ◌/◌, ◌<◌, ◌≤◌, length};
 ghost use Rattle.x696.specs.Table.{row_width, row_word, row_kind, row_flags, row_a, row_b, row_first, row_count};
 ghost use Rattle.x696.specs.Table.{item_width, item_word, enumerated_number, component_row, component_mark, component_default};
+ghost use Rattle.table.specs.Kind.{code_of};
 ghost use Rattle.x696.specs.Table.{tag_class, tag_number, alternative_row};
 
 use crate::bounds::Bounds;
+use crate::kind::Kind;
 
 // Which word of an item names a row: of a SEQUENCE's or a SEQUENCE OF's, and of a CHOICE's.
 pub const COMPONENT_ROW: usize = 0;
@@ -43,6 +45,14 @@ pub fn row_kind(rows: &[u64], row: usize) -> u64
     ensures { result ≡ row_kind rows.now row }
 {
     row_word(rows, row, 0)
+}
+
+// The kind of a row that has one, as each row of a sound table has.
+pub fn known_kind(rows: &[u64], row: usize) -> Kind
+    requires { (row < length rows.now / row_width) × (0 < row_kind rows.now row) × (row_kind rows.now row ≤ 12) }
+    ensures { code_of result ≡ row_kind rows.now row }
+{
+    Kind::try_from(row_kind(rows, row)).unwrap()
 }
 
 pub fn row_bounds(rows: &[u64], row: usize) -> Bounds

@@ -53,7 +53,7 @@ pub fn member_missing(
     is_missing(
         nodes,
         at,
-        table.row_kind(row),
+        table.row_kind(row).number(),
         mark,
         table.component_default(i),
     )

@@ -27,6 +27,7 @@ use octets::variable::put_quantity;
 use pens::leaf::write_leaf;
 use pens::pen::Pen;
 use reading::parts::{bit_of, count_marked, member_mark, member_row};
+use table::kind::Kind;
 use table::sound::Table;
 
 // A value of a row at node `at`, with `used` contents octets before it; its octets go to `to`: a member alone.
@@ -157,12 +158,17 @@ fn write_row(
         return Err(Cause::BadList.at(at));
     }
     let kind = table.row_kind(row);
-    if node_kind(nodes, at) != kind {
+    if node_kind(nodes, at) != kind.number() {
         return Err(Cause::BadList.at(at));
     }
     let number = node_number(nodes, at);
-    if kind < 10 {
-        return write_leaf(
+    match kind {
+        Kind::Sequence => write_sequence(table, row, number, nodes, contents, at, used, to, out),
+        Kind::SequenceOf => {
+            write_sequence_of(table, row, number, nodes, contents, at, used, to, out)
+        }
+        Kind::Choice => write_choice(table, row, number, nodes, contents, at, used, to, out),
+        _ => write_leaf(
             table.rows,
             table.items,
             row,
@@ -172,15 +178,8 @@ fn write_row(
             used,
             to,
             out,
-        );
+        ),
     }
-    if kind == 10 {
-        return write_sequence(table, row, number, nodes, contents, at, used, to, out);
-    }
-    if kind == 11 {
-        return write_sequence_of(table, row, number, nodes, contents, at, used, to, out);
-    }
-    write_choice(table, row, number, nodes, contents, at, used, to, out)
 }
 
 // Kind 10, behind its node: preamble, components (16.1).
@@ -315,7 +314,7 @@ pub fn write_component(
     if component.mark == 0 {
         return write_value(table, component.row, nodes, contents, at, used, to, out);
     }
-    if is_missing(nodes, at, table.row_kind(component.row), component.mark, component.given) {
+    if is_missing(nodes, at, table.row_kind(component.row).number(), component.mark, component.given) {
         return Ok(Pen {
             at: at + 1,
             used,

@@ -1,20 +1,22 @@
--- A kind without components has no step; the three groups are opened each in its way.
+-- The three groups are opened each in its way; a kind without components has no step.
 -- Assumes nothing.
-use native.Mathlib.Omega.{arith}
-use Rattle.x696.proofs.TableRows.{kind_known}
+use Rattle.table.proofs.KindNumbers.{kind_number, leaf_left}
 use Rattle.finding.proofs.Openings.{opened_nowhere, leaf_nowhere}
 use Rattle.finding.proofs.opening.open_group.Goals as goal
 
-pub returns-then-kind-lt10 : goal.returns-then-kind-lt10
-returns-then-kind-lt10 c = opened_nowhere λ v s. leaf_nowhere _ _ _ _ _ v s (rw c.row_kind-kind.ensures at c.if-kind-lt10.true)
+pub open_sequence-requires : goal.open_sequence-requires
+open_sequence-requires c =
+    (c.requires.0, c.requires.1, c.requires.2, c.requires.3, kind_number c.row_kind.ensures c.in-Sequence.is)
+
+pub open_sequence_of-requires : goal.open_sequence_of-requires
+open_sequence_of-requires c =
+    (c.requires.0, c.requires.1, c.requires.2, c.requires.3, kind_number c.row_kind.ensures c.in-SequenceOf.is)
 
 pub open_choice-requires : goal.open_choice-requires
 open_choice-requires c =
-    let sound = c.args.table.now.sound.row c.args.row c.requires.0 in
-    let (_, most) = kind_known _ _ _ sound in (
-      c.requires.0,
-      c.requires.1,
-      c.requires.2,
-      c.requires.3,
-      omega (arith, most, c.row_kind-kind.ensures, c.if-kind-lt10.false, c.if-kind-eq10.false, c.if-kind-eq11.false),
-    )
+    (c.requires.0, c.requires.1, c.requires.2, c.requires.3, kind_number c.row_kind.ensures c.in-Choice.is)
+
+pub returns-in_default : goal.returns-in_default
+returns-in_default c =
+    let leaf = leaf_left _ c.in_default.not-Sequence c.in_default.not-SequenceOf c.in_default.not-Choice in
+    opened_nowhere λ v s. leaf_nowhere _ _ _ _ _ v s (rw c.row_kind.ensures at leaf)

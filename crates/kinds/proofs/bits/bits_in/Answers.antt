@@ -52,5 +52,5 @@ returns c =
     c.if-k-unused.false
     c.low_bits_clear.ensures c.if-not-low_bits_clear.false
     c.allows_size.ensures c.requires.1
-    c.if-not-allows_size.false c.put_node.ensures
+    c.if-not-allows_size.false (rw c.number.ensures at c.put_node.ensures)
     c.copy.ensures refl

@@ -23,5 +23,5 @@ returns c =
     fixed_goes _ _ _ _ c.requires.1
     c.octets-filled.ensures c.if-msg-at.false
     c.unused.ensures c.low_bits_clear.ensures
-    c.if-not-low_bits_clear.false c.put_node.ensures
+    c.if-not-low_bits_clear.false (rw c.number.ensures at c.put_node.ensures)
     c.copy.ensures refl

@@ -1,58 +1,63 @@
 -- The answer of `read_scalar` is the outcome of reading the row's type, by the row's kind.
 -- Assumes nothing.
 use mathlib.Core.Path.{refl}
-use mathlib.Core.Path.{sym, ◌∙◌}
+use native.Mathlib.Omega.{arith}
+use Rattle.x696.proofs.TableRows.{kind_known}
 use Rattle.kinds.proofs.Simple.{null_goes}
 use Rattle.kinds.proofs.ByKind.{scalar_row, boolean_type, integer_type, listed_type, listed_range, single_type, double_type}
-use Rattle.kinds.proofs.ByKind.{null_kind, null_type}
+use Rattle.kinds.proofs.ByKind.{null_type}
 use Rattle.x696.specs.Leaf.{real_kind}
+use Rattle.table.proofs.KindNumbers.{kind_number, null_left}
 use Rattle.kinds.proofs.leaf.read_scalar.Goals as goal
 
-pub returns-then-kind-eq1 : goal.returns-then-kind-eq1
-returns-then-kind-eq1 c =
-    λ n.
-    scalar_row _ _ _ (boolean_type _ _ _ c.row_kind-kind.ensures c.if-kind-eq1.true) (sym
-    c.row_kind-kind.ensures ∙ c.if-kind-eq1.true) (c.read_boolean.ensures n)
+pub known_kind-requires : goal.known_kind-requires
+known_kind-requires c = let known = kind_known _ _ _ c.requires.1 in (c.requires.0, known.0, known.1)
 
-pub returns-then-kind-eq2 : goal.returns-then-kind-eq2
-returns-then-kind-eq2 c =
+pub returns-in-Boolean : goal.returns-in-Boolean
+returns-in-Boolean c =
     λ n.
-    scalar_row _ _ _ (integer_type _ _ _ c.row_kind-kind.ensures c.row_bounds.ensures.0 c.row_bounds.ensures.1
-    c.row_bounds.ensures.2 c.if-kind-eq2.true) (sym c.row_kind-kind.ensures ∙ c.if-kind-eq2.true)
-    (c.read_integer.ensures n)
+    scalar_row _ _ _ (boolean_type _ _ _ c.known_kind.ensures c.in-Boolean.is)
+    (kind_number c.known_kind.ensures c.in-Boolean.is) (c.read_boolean.ensures n)
+
+pub returns-in-Integer : goal.returns-in-Integer
+returns-in-Integer c =
+    λ n.
+    scalar_row _ _ _ (integer_type _ _ _ c.known_kind.ensures c.row_bounds.ensures.0 c.row_bounds.ensures.1
+    c.row_bounds.ensures.2 c.in-Integer.is)
+    (kind_number c.known_kind.ensures c.in-Integer.is) (c.read_integer.ensures n)
 
 pub read_listed-requires : goal.read_listed-requires
 read_listed-requires c =
     let (range, ascends) =
-    listed_range _ _ _ c.row_kind-kind.ensures c.row_first.ensures c.row_count.ensures
-    c.if-kind-eq3.true c.requires.1 in
+    listed_range _ _ _ c.known_kind.ensures c.row_first.ensures c.row_count.ensures
+    c.in-Enumerated.is c.requires.1 in
     (c.requires.3, range, ascends)
 
-pub returns-then-kind-eq3 : goal.returns-then-kind-eq3
-returns-then-kind-eq3 c =
+pub returns-in-Enumerated : goal.returns-in-Enumerated
+returns-in-Enumerated c =
     λ n.
-    scalar_row _ _ _ (listed_type _ _ _ c.row_kind-kind.ensures c.row_first.ensures
-    c.row_count.ensures c.if-kind-eq3.true) (sym c.row_kind-kind.ensures ∙ c.if-kind-eq3.true)
-    (c.read_listed.ensures n)
+    scalar_row _ _ _ (listed_type _ _ _ c.known_kind.ensures c.row_first.ensures
+    c.row_count.ensures c.in-Enumerated.is)
+    (kind_number c.known_kind.ensures c.in-Enumerated.is) (c.read_listed.ensures n)
 
-pub returns-then-kind-eq4 : goal.returns-then-kind-eq4
+pub returns-in-Single : goal.returns-in-Single
 unfolding real_kind
-returns-then-kind-eq4 c =
+returns-in-Single c =
     λ n.
-    scalar_row _ _ _ (single_type _ _ _ c.row_kind-kind.ensures c.if-kind-eq4.true) (sym
-    c.row_kind-kind.ensures ∙ c.if-kind-eq4.true) (c.read_real.ensures n)
+    scalar_row _ _ _ (single_type _ _ _ c.known_kind.ensures c.in-Single.is)
+    (kind_number c.known_kind.ensures c.in-Single.is) (c.read_real.ensures n)
 
-pub returns-then-kind-eq5 : goal.returns-then-kind-eq5
+pub returns-in-Double : goal.returns-in-Double
 unfolding real_kind
-returns-then-kind-eq5 c =
+returns-in-Double c =
     λ n.
-    scalar_row _ _ _ (double_type _ _ _ c.row_kind-kind.ensures c.if-kind-eq5.true) (sym
-    c.row_kind-kind.ensures ∙ c.if-kind-eq5.true) (c.read_real-then-kind-eq5.ensures n)
+    scalar_row _ _ _ (double_type _ _ _ c.known_kind.ensures c.in-Double.is)
+    (kind_number c.known_kind.ensures c.in-Double.is) (c.read_real-in-Double.ensures n)
 
-pub returns : goal.returns
-returns c =
+pub returns-in_default : goal.returns-in_default
+returns-in_default c =
     λ n.
-    let six = null_kind _ _ _ c.row_kind-kind.ensures c.requires.1 c.requires.2 c.if-kind-eq1.false c.if-kind-eq2.false
-    c.if-kind-eq3.false c.if-kind-eq4.false c.if-kind-eq5.false in
-    scalar_row _ _ _ (null_type _ _ _ c.row_kind-kind.ensures six) (sym c.row_kind-kind.ensures ∙ six)
+    let null = null_left _ (omega (arith, c.known_kind.ensures, c.requires.2)) c.in_default.not-Boolean c.in_default.not-Integer
+    c.in_default.not-Enumerated c.in_default.not-Single c.in_default.not-Double in
+    scalar_row _ _ _ (null_type _ _ _ c.known_kind.ensures null) (kind_number c.known_kind.ensures null)
     (null_goes _ c.requires.3 refl)

@@ -4,19 +4,19 @@ use Rattle.kinds.proofs.ByKind.{bits_type, text_type}
 use Rattle.pens.proofs.ByRow.{headed_row}
 use Rattle.pens.proofs.leaf.begin_string.Goals as goal
 
-pub returns-then-kind-eq8 : goal.returns-then-kind-eq8
-returns-then-kind-eq8 c =
+pub returns-in-BitString : goal.returns-in-BitString
+returns-in-BitString c =
     headed_row (bits_type _ _ _ c.requires.1
     c.row_bounds-bounds.ensures.0
     c.row_bounds-bounds.ensures.1
-    c.row_bounds-bounds.ensures.2 c.if-kind-eq8.true)
+    c.row_bounds-bounds.ensures.2 c.in-BitString.is)
     c.begin_bits.ensures
 
-pub returns : goal.returns
-returns c =
+pub returns-in_default : goal.returns-in_default
+returns-in_default c =
     headed_row (text_type _ _ _ c.requires.1
     c.row_bounds-bounds.ensures.0
     c.row_bounds-bounds.ensures.1
     c.row_bounds-bounds.ensures.2 (omega (arith, c.requires.2))
     c.requires.3
-    c.if-kind-eq8.false) c.begin_text.ensures
+    c.in_default.not-BitString c.eq.ensures) c.begin_text.ensures

@@ -7,9 +7,10 @@
 use Rattle.std.proofs.lemmas.Result.{err_from_is_err_and}
 use Prim.Native.Nat.{◌<◌}
 use native.Mathlib.Omega.{arith}
-use Rattle.x696.proofs.TableRows.{choice_row, kind_known, sequence_row, sequence_of_row}
+use Rattle.x696.proofs.TableRows.{choice_row, sequence_row, sequence_of_row}
+use Rattle.table.proofs.KindNumbers.{kind_number, is_number, is_string}
 use Rattle.octets.proofs.Octets.{below_known}
-use mathlib.Core.Path.{◌≡◌, refl, sym, ◌∙◌}
+use mathlib.Core.Path.{refl, ◌∙◌}
 use Rattle.reading.proofs.Chains.{Chain}
 use Rattle.x696.specs.Table.{type_of}
 use Rattle.kinds.proofs.Ran
@@ -93,7 +94,7 @@ read_choice-returns t c =
     Alternatives.chosen_goes _ _ _ _ _ _ c.requires.1 sound c.requires.4
     c.read_tag.ensures _ _ _ _ c.in_ok-g.was c.row_first-first.ensures c.row_count-n.ensures
     (c.find_tag.ensures.there _ c.in-Some.is).1
-    (c.find_tag.ensures.there _ c.in-Some.is).0 c.alternative_row.ensures _ c.put_node.ensures (one.went _ c.in_ok-d.was)
+    (c.find_tag.ensures.there _ c.in-Some.is).0 c.alternative_row.ensures _ (rw c.number.ensures at c.put_node.ensures) (one.went _ c.in_ok-d.was)
     refl
 
 pub read_member-is_missing-requires : goal.read_member-is_missing-requires
@@ -245,34 +246,28 @@ read_row-returns-then-count-ge4096 t c =
 pub read_row-read_scalar-requires : goal.read_row-read_scalar-requires
 read_row-read_scalar-requires t c =
     let sound = c.args.table.now.sound.row c.args.row c.requires.0 in
-    (c.requires.0, sound, omega (arith, c.row_kind-kind.ensures), c.requires.1)
+    (c.requires.0, sound, is_number c.row_kind-kind.ensures c.in-Boolean.is, c.requires.1)
 
-pub read_row-returns-in_err-x : goal.read_row-returns-in_err-x
-read_row-returns-in_err-x t c =
+pub read_row-returns-in_err-x-in-Boolean : goal.read_row-returns-in_err-x-in-Boolean
+read_row-returns-in_err-x-in-Boolean t c =
     let p = err_from_is_err_and c.from_residual.result c.from_residual.ensures.1 in
     rw (p.1, p.2) (Ran.ran_fault _ (Elements.value_inside _ _ _ _ c.if-count-ge4096.false ∙ (c.read_scalar.ensures
-    c.args.count).stopped _ c.in_err-x.was))
+    c.args.count).stopped _ c.in_err-x-in-Boolean.was))
 
-pub read_row-returns-then-kind-lt7 : goal.read_row-returns-then-kind-lt7
-read_row-returns-then-kind-lt7 t c =
+pub read_row-returns-in_ok-x-in-Boolean : goal.read_row-returns-in_ok-x-in-Boolean
+read_row-returns-in_ok-x-in-Boolean t c =
     Ran.ran_by (Elements.value_inside _ _ _ _ c.if-count-ge4096.false)
     (Scalars.scalar_stored _ _ (Scalars.scalar_by refl c.row_kind-kind.ensures (c.read_scalar.ensures
     c.args.count)) _
-    c.in_ok-x.was c.put_node.ensures refl)
+    c.in_ok-x-in-Boolean.was (rw c.number.ensures at c.put_node.ensures) refl)
 
 pub read_row-read_string-requires : goal.read_row-read_string-requires
-read_row-read_string-requires t c = (
-  c.requires.0,
-  omega (arith, c.row_kind-kind.ensures, c.if-kind-lt7.false),
-  omega (arith, c.row_kind-kind.ensures, c.if-kind-lt10.true),
-  c.if-count-ge4096.false,
-  c.requires.1,
-  c.requires.2,
-  c.requires.3,
-)
+read_row-read_string-requires t c =
+    let (more, less) = is_string c.row_kind-kind.ensures c.in-OctetString.is in
+    (c.requires.0, more, less, c.if-count-ge4096.false, c.requires.1, c.requires.2, c.requires.3)
 
-pub read_row-returns-then-kind-lt10 : goal.read_row-returns-then-kind-lt10
-read_row-returns-then-kind-lt10 t c = Ran.ran_by (Elements.value_inside _ _ _ _ c.if-count-ge4096.false) c.read_string.ensures
+pub read_row-returns-in-OctetString : goal.read_row-returns-in-OctetString
+read_row-returns-in-OctetString t c = Ran.ran_by (Elements.value_inside _ _ _ _ c.if-count-ge4096.false) c.read_string.ensures
 
 pub read_row-read_sequence-requires : goal.read_row-read_sequence-requires
 read_row-read_sequence-requires t c = (
@@ -282,13 +277,13 @@ read_row-read_sequence-requires t c = (
     c.requires.1,
     c.requires.2,
     c.if-count-ge4096.false,
-    sym c.row_kind-kind.ensures ∙ c.if-kind-eq10.true,
+    kind_number c.row_kind-kind.ensures c.in-Sequence.is,
     c.requires.3,
   ),
 )
 
-pub read_row-returns-then-kind-eq10 : goal.read_row-returns-then-kind-eq10
-read_row-returns-then-kind-eq10 t c = Ran.ran_by (Elements.value_inside _ _ _ _ c.if-count-ge4096.false) c.read_sequence.ensures
+pub read_row-returns-in-Sequence : goal.read_row-returns-in-Sequence
+read_row-returns-in-Sequence t c = Ran.ran_by (Elements.value_inside _ _ _ _ c.if-count-ge4096.false) c.read_sequence.ensures
 
 pub read_row-read_sequence_of-requires : goal.read_row-read_sequence_of-requires
 read_row-read_sequence_of-requires t c = (
@@ -298,32 +293,29 @@ read_row-read_sequence_of-requires t c = (
     c.requires.1,
     c.requires.2,
     c.if-count-ge4096.false,
-    sym c.row_kind-kind.ensures ∙ c.if-kind-eq11.true,
+    kind_number c.row_kind-kind.ensures c.in-SequenceOf.is,
     c.requires.3,
   ),
 )
 
-pub read_row-returns-then-kind-eq11 : goal.read_row-returns-then-kind-eq11
-read_row-returns-then-kind-eq11 t c = Ran.ran_by (Elements.value_inside _ _ _ _ c.if-count-ge4096.false) c.read_sequence_of.ensures
+pub read_row-returns-in-SequenceOf : goal.read_row-returns-in-SequenceOf
+read_row-returns-in-SequenceOf t c = Ran.ran_by (Elements.value_inside _ _ _ _ c.if-count-ge4096.false) c.read_sequence_of.ensures
 
 pub read_row-read_choice-requires : goal.read_row-read_choice-requires
-read_row-read_choice-requires t c =
-    let sound = c.args.table.now.sound.row c.args.row c.requires.0 in
-    let known = kind_known _ _ _ sound in
-    let twelve : c.row_kind-kind.result ≡ 12 = omega (arith, known.1, c.row_kind-kind.ensures) in (
-      omega arith,
-      (
-        c.requires.0,
-        c.requires.1,
-        c.requires.2,
-        c.if-count-ge4096.false,
-        sym c.row_kind-kind.ensures ∙ twelve,
-        c.requires.3,
-      ),
-    )
+read_row-read_choice-requires t c = (
+  omega arith,
+  (
+    c.requires.0,
+    c.requires.1,
+    c.requires.2,
+    c.if-count-ge4096.false,
+    kind_number c.row_kind-kind.ensures c.in-Choice.is,
+    c.requires.3,
+  ),
+)
 
-pub read_row-returns : goal.read_row-returns
-read_row-returns t c = Ran.ran_by (Elements.value_inside _ _ _ _ c.if-count-ge4096.false) c.read_choice.ensures
+pub read_row-returns-in-Choice : goal.read_row-returns-in-Choice
+read_row-returns-in-Choice t c = Ran.ran_by (Elements.value_inside _ _ _ _ c.if-count-ge4096.false) c.read_choice.ensures
 
 pub read_sequence-count_marked-bits-requires : goal.read_sequence-count_marked-bits-requires
 read_sequence-count_marked-bits-requires t c =
@@ -423,7 +415,7 @@ read_sequence-returns t c =
     c.row_first-first.ensures
     c.row_count-n.ensures c.count_marked-bits.ensures.0 below (Sequences.preamble_got _ _ _ c.requires.1
     c.if-msg-at.false _ c.is_padded.ensures c.if-not-is_padded.false) in
-    Chains.group_goes 10 _ is _ c.read_members.ensures _ _ c.in_ok-d.was c.put_node.ensures
+    Chains.group_goes 10 _ is _ c.read_members.ensures _ _ c.in_ok-d.was (rw c.number.ensures at c.put_node.ensures)
     (omega arith) refl
 
 pub read_sequence_of-component_row-inner-requires : goal.read_sequence_of-component_row-inner-requires
@@ -473,5 +465,5 @@ read_sequence_of-returns t c =
     c.read_quantity.ensures _ _ _ _
     c.in_ok-q.was c.row_first.ensures c.component_row-inner.ensures in
     let y = c.read_quantity.ensures.went _ c.in_ok-q.was in
-    Chains.group_goes 11 _ is _ c.read_members.ensures _ _ c.in_ok-d.was c.put_node.ensures y.ahead
+    Chains.group_goes 11 _ is _ c.read_members.ensures _ _ c.in_ok-d.was (rw c.number.ensures at c.put_node.ensures) y.ahead
     refl

@@ -1,51 +1,43 @@
 -- One law for each kind.
 -- Assumes nothing.
-use Rattle.showing.proofs.SettingLaws.{kind_one, kind_two, kind_three, kind_four, kind_five, kind_seven}
-use Rattle.showing.proofs.SettingLaws.{kind_eight, kind_nine, kind_ten, kind_eleven, kind_twelve, kind_none}
+use Rattle.std.proofs.Common.{◌≡◌, ap, refl}
+use Rattle.std.proofs.Math.Logic.{inl, inr, ⊎_elim}
+use Rattle.table.proofs.KindNumbers.{is_string}
+use Rattle.table.specs.Kind.{code_of}
+use Rattle.table.specs.declared.kind.Kind.{Kind}
+use Rattle.showing.proofs.SettingLaws.{kind_one, kind_two, kind_three, kind_four, kind_five, kind_six, kind_string}
+use Rattle.showing.proofs.SettingLaws.{kind_group, kind_twelve}
 use Rattle.showing.proofs.settings.setting_of.Goals as goal
 
+number : {k v : Kind} → k ≡ v → code_of k ≡ code_of v
+number e = ap code_of e
+
 pub overflow_cast-number : goal.overflow_cast-number
-overflow_cast-number c = record { fits = c.requires c.in-4.is }
+overflow_cast-number c = record { fits = c.requires c.in-Single.is }
 
-pub returns-in-1 : goal.returns-in-1
-returns-in-1 c = kind_one _ _ _ _ c.in-1.is
+pub returns-in-Boolean : goal.returns-in-Boolean
+returns-in-Boolean c = kind_one _ _ _ _ (number c.in-Boolean.is)
 
-pub returns-in-2 : goal.returns-in-2
-returns-in-2 c = kind_two _ _ _ _ c.in-2.is c.integer_setting.ensures
+pub returns-in-Integer : goal.returns-in-Integer
+returns-in-Integer c = kind_two _ _ _ _ (number c.in-Integer.is) c.integer_setting.ensures
 
-pub returns-in-3 : goal.returns-in-3
-returns-in-3 c =
-    kind_three _ _ _ _ c.in-3.is (record { sfits = c.signed_of.type_inv })
-    c.signed_of.ensures
+pub returns-in-Enumerated : goal.returns-in-Enumerated
+returns-in-Enumerated c = kind_three _ _ _ _ (number c.in-Enumerated.is) (record { sfits = c.signed_of.type_inv }) c.signed_of.ensures
 
-pub returns-in-4 : goal.returns-in-4
-returns-in-4 c = kind_four _ _ _ _ c.in-4.is c.single_of.ensures
+pub returns-in-Single : goal.returns-in-Single
+returns-in-Single c = kind_four _ _ _ _ (number c.in-Single.is) c.single_of.ensures
 
-pub returns-in-5 : goal.returns-in-5
-returns-in-5 c = kind_five _ _ _ _ c.in-5.is c.double_of.ensures
+pub returns-in-Double : goal.returns-in-Double
+returns-in-Double c = kind_five _ _ _ _ (number c.in-Double.is) c.double_of.ensures
 
-pub returns-in-7 : goal.returns-in-7
-returns-in-7 c = kind_seven _ _ _ _ c.in-7.is
+pub returns-in-Null : goal.returns-in-Null
+returns-in-Null c = kind_six _ _ _ _ (number c.in-Null.is)
 
-pub returns-in-8 : goal.returns-in-8
-returns-in-8 c = kind_eight _ _ _ _ c.in-8.is
+pub returns-in-OctetString : goal.returns-in-OctetString
+returns-in-OctetString c = kind_string _ _ _ _ (is_string refl c.in-OctetString.is)
 
-pub returns-in-9 : goal.returns-in-9
-returns-in-9 c = kind_nine _ _ _ _ c.in-9.is
+pub returns-in-Sequence : goal.returns-in-Sequence
+returns-in-Sequence c = kind_group _ _ _ _ (⊎_elim (λ e. inl (number e)) (λ e. inr (number e)) c.in-Sequence.is)
 
-pub returns-in-10 : goal.returns-in-10
-returns-in-10 c = kind_ten _ _ _ _ c.in-10.is
-
-pub returns-in-11 : goal.returns-in-11
-returns-in-11 c = kind_eleven _ _ _ _ c.in-11.is
-
-pub returns-in-12 : goal.returns-in-12
-returns-in-12 c = kind_twelve _ _ _ _ c.in-12.is
-
-pub returns-in_default : goal.returns-in_default
-returns-in_default c =
-    let rest = c.in_default.in_default-own.rest in
-    kind_none _ _ _ _ rest.0.0.0.0.0.0.0.0.0.0.1 rest.0.0.0.0.0.0.0.0.0.1
-    rest.0.0.0.0.0.0.0.0.1 rest.0.0.0.0.0.0.0.1 rest.0.0.0.0.0.0.1
-    rest.0.0.0.0.0.1 rest.0.0.0.0.1 rest.0.0.0.1
-    rest.0.0.1 rest.0.1 rest.1
+pub returns-in-Choice : goal.returns-in-Choice
+returns-in-Choice c = kind_twelve _ _ _ _ (number c.in-Choice.is)

@@ -3,8 +3,8 @@
 use Rattle.showing.proofs.TextLaws.{bits_size, other_size}
 use Rattle.showing.proofs.texts.contents_size.Goals as goal
 
-pub returns-then-kind-eq8 : goal.returns-then-kind-eq8
-returns-then-kind-eq8 c = bits_size _ _ c.if-kind-eq8.true c.octets.ensures
+pub returns-in-BitString : goal.returns-in-BitString
+returns-in-BitString c = bits_size _ _ c.in-BitString.is c.octets.ensures
 
-pub returns : goal.returns
-returns c = other_size _ _ c.if-kind-eq8.false
+pub returns-in_default : goal.returns-in_default
+returns-in_default c = other_size _ _ c.in_default.not-BitString

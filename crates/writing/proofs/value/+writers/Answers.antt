@@ -6,9 +6,10 @@
 -- The answer of `write_sequence_of` is the outcome of walking a SEQUENCE OF behind its node.
 use Rattle.std.proofs.lemmas.Result.{err_from_is_err_and}
 use Prim.Native.Nat.{◌<◌, ◌≤◌}
-use mathlib.Core.Path.{refl, ◌≡◌, sym, ◌∙◌}
+use mathlib.Core.Path.{refl, ◌∙◌}
 use native.Mathlib.Omega.{arith}
-use Rattle.x696.proofs.TableRows.{choice_row, kind_known, sequence_row, sequence_of_row}
+use Rattle.x696.proofs.TableRows.{choice_row, sequence_row, sequence_of_row}
+use Rattle.table.proofs.KindNumbers.{kind_number, leaf_left}
 use Rattle.reading.proofs.Members.{members_alone}
 use Rattle.pens.proofs.Putting
 use Rattle.writing.proofs.Copies
@@ -263,31 +264,32 @@ write_row-returns-then-nodes-at t c =
     Putting.put_refused (NodeTests.value_lacks _ _ c.args.contents.now _ c.args.used
     c.if-nodes-at.true) c.at.ensures
 
-pub write_row-returns-then-node_kind-kind : goal.write_row-returns-then-node_kind-kind
-write_row-returns-then-node_kind-kind t c =
+pub write_row-returns-then-node_kind-number : goal.write_row-returns-then-node_kind-number
+write_row-returns-then-node_kind-number t c =
     let sound = c.args.table.now.sound.row c.args.row c.requires.0 in
     Putting.put_refused (NodeTests.row_other _ _ _ sound _ c.args.contents.now _ c.args.used
-    c.if-nodes-at.false c.row_kind-kind.ensures
-    c.node_kind.ensures c.if-node_kind-kind.true) c.at-then-node_kind-kind.ensures
+    c.if-nodes-at.false (c.number.ensures ∙ c.row_kind-kind.ensures)
+    c.node_kind.ensures c.if-node_kind-number.true) c.at-then-node_kind-number.ensures
 
 pub write_row-write_leaf-requires : goal.write_row-write_leaf-requires
 write_row-write_leaf-requires t c =
-    let sound = c.args.table.now.sound.row c.args.row c.requires.0 in (
+    let sound = c.args.table.now.sound.row c.args.row c.requires.0 in
+    let leaf = leaf_left _ c.in_default.not-Sequence c.in_default.not-SequenceOf c.in_default.not-Choice in (
       c.requires.0,
       sound,
-      omega (arith, c.row_kind-kind.ensures),
+      omega (arith, c.row_kind-kind.ensures, leaf),
       omega (arith, c.if-nodes-at.false),
       c.requires.3,
       c.requires.4,
       c.requires.5,
     )
 
-pub write_row-returns-then-kind-lt10 : goal.write_row-returns-then-kind-lt10
-write_row-returns-then-kind-lt10 t c =
+pub write_row-returns-in_default : goal.write_row-returns-in_default
+write_row-returns-in_default t c =
     let sound = c.args.table.now.sound.row c.args.row c.requires.0 in
     Putting.put_by (NodeTests.row_behind _ _ _ sound _ c.args.contents.now _ c.args.used
-    c.if-nodes-at.false c.row_kind-kind.ensures c.node_kind.ensures
-    c.if-node_kind-kind.false c.node_number-number.ensures)
+    c.if-nodes-at.false (c.number.ensures ∙ c.row_kind-kind.ensures) c.node_kind.ensures
+    c.if-node_kind-number.false c.node_number-number.ensures)
     (c.write_leaf.ensures c.args.nodes.now (omega (arith, c.if-nodes-at.false)))
 
 pub write_row-write_sequence-requires : goal.write_row-write_sequence-requires
@@ -300,16 +302,16 @@ write_row-write_sequence-requires t c = (
     c.requires.3,
     c.requires.4,
     c.requires.5,
-    sym c.row_kind-kind.ensures ∙ c.if-kind-eq10.true,
+    kind_number c.row_kind-kind.ensures c.in-Sequence.is,
   ),
 )
 
-pub write_row-returns-then-kind-eq10 : goal.write_row-returns-then-kind-eq10
-write_row-returns-then-kind-eq10 t c =
+pub write_row-returns-in-Sequence : goal.write_row-returns-in-Sequence
+write_row-returns-in-Sequence t c =
     let sound = c.args.table.now.sound.row c.args.row c.requires.0 in
     Putting.put_by (NodeTests.row_behind _ _ _ sound _ c.args.contents.now _ c.args.used
-    c.if-nodes-at.false c.row_kind-kind.ensures c.node_kind.ensures
-    c.if-node_kind-kind.false c.node_number-number.ensures)
+    c.if-nodes-at.false (c.number.ensures ∙ c.row_kind-kind.ensures) c.node_kind.ensures
+    c.if-node_kind-number.false c.node_number-number.ensures)
     c.write_sequence.ensures
 
 pub write_row-write_sequence_of-requires : goal.write_row-write_sequence_of-requires
@@ -322,41 +324,38 @@ write_row-write_sequence_of-requires t c = (
     c.requires.3,
     c.requires.4,
     c.requires.5,
-    sym c.row_kind-kind.ensures ∙ c.if-kind-eq11.true,
+    kind_number c.row_kind-kind.ensures c.in-SequenceOf.is,
   ),
 )
 
-pub write_row-returns-then-kind-eq11 : goal.write_row-returns-then-kind-eq11
-write_row-returns-then-kind-eq11 t c =
+pub write_row-returns-in-SequenceOf : goal.write_row-returns-in-SequenceOf
+write_row-returns-in-SequenceOf t c =
     let sound = c.args.table.now.sound.row c.args.row c.requires.0 in
     Putting.put_by (NodeTests.row_behind _ _ _ sound _ c.args.contents.now _ c.args.used
-    c.if-nodes-at.false c.row_kind-kind.ensures c.node_kind.ensures
-    c.if-node_kind-kind.false c.node_number-number.ensures)
+    c.if-nodes-at.false (c.number.ensures ∙ c.row_kind-kind.ensures) c.node_kind.ensures
+    c.if-node_kind-number.false c.node_number-number.ensures)
     c.write_sequence_of.ensures
 
 pub write_row-write_choice-requires : goal.write_row-write_choice-requires
-write_row-write_choice-requires t c =
-    let sound = c.args.table.now.sound.row c.args.row c.requires.0 in
-    let known = kind_known _ _ _ sound in
-    let twelve : c.row_kind-kind.result ≡ 12 = omega (arith, known.1, c.row_kind-kind.ensures) in (
-      omega arith,
-      (
-        c.requires.0,
-        c.requires.1,
-        omega (arith, c.if-nodes-at.false),
-        c.requires.3,
-        c.requires.4,
-        c.requires.5,
-        sym c.row_kind-kind.ensures ∙ twelve,
-      ),
-    )
+write_row-write_choice-requires t c = (
+  omega arith,
+  (
+    c.requires.0,
+    c.requires.1,
+    omega (arith, c.if-nodes-at.false),
+    c.requires.3,
+    c.requires.4,
+    c.requires.5,
+    kind_number c.row_kind-kind.ensures c.in-Choice.is,
+  ),
+)
 
-pub write_row-returns : goal.write_row-returns
-write_row-returns t c =
+pub write_row-returns-in-Choice : goal.write_row-returns-in-Choice
+write_row-returns-in-Choice t c =
     let sound = c.args.table.now.sound.row c.args.row c.requires.0 in
     Putting.put_by (NodeTests.row_behind _ _ _ sound _ c.args.contents.now _ c.args.used
-    c.if-nodes-at.false c.row_kind-kind.ensures c.node_kind.ensures
-    c.if-node_kind-kind.false c.node_number-number.ensures)
+    c.if-nodes-at.false (c.number.ensures ∙ c.row_kind-kind.ensures) c.node_kind.ensures
+    c.if-node_kind-number.false c.node_number-number.ensures)
     c.write_choice.ensures
 
 pub write_sequence-returns-then-number-n : goal.write_sequence-returns-then-number-n

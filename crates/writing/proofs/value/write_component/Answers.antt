@@ -13,7 +13,7 @@ returns-then-component-eq0 c = Components.component_plain _ _ _ _ _ _ _ _ c.writ
 pub returns-then-is_missing : goal.returns-then-is_missing
 returns-then-is_missing c =
     let sound = c.args.table.now.sound.row c.args.component.row c.requires.0 in
-    let kind = c.row_kind.ensures ∙ sym (NodeTests.kind_is _ _ _ sound) in
+    let kind = c.number.ensures ∙ c.row_kind.ensures ∙ sym (NodeTests.kind_is _ _ _ sound) in
     Components.component_missing _ _ _ _ _ _ _ _ _ kind c.if-component-eq0.false (sym c.is_missing.ensures ∙
     c.if-is_missing.true)
     c.requires.6 c.requires.3 refl
@@ -21,7 +21,7 @@ returns-then-is_missing c =
 pub returns : goal.returns
 returns c =
     let sound = c.args.table.now.sound.row c.args.component.row c.requires.0 in
-    let kind = c.row_kind.ensures ∙ sym (NodeTests.kind_is _ _ _ sound) in
+    let kind = c.number.ensures ∙ c.row_kind.ensures ∙ sym (NodeTests.kind_is _ _ _ sound) in
     Components.component_carried _ _ _ _ _ _ _ _ c.write_value-2.ensures _ kind
-    (rw c.row_kind.ensures (kind_known _ _ _ sound).0) c.if-component-eq0.false (sym c.is_missing.ensures ∙
+    (rw (c.number.ensures, c.row_kind.ensures) (kind_known _ _ _ sound).0) c.if-component-eq0.false (sym c.is_missing.ensures ∙
     c.if-is_missing.false)
