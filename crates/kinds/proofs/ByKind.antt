@@ -10,7 +10,7 @@ use borrow.Author.Tests.{eqb-true, eqb-false}
 use Rattle.x696.proofs.OutcomeLaws.{cases}
 use Rattle.x696.specs.Outcome.{choose}
 use Rattle.x696.specs.Real.{binary32, binary64}
-use Rattle.x696.specs.Leaf.{Leaf, boolean, null, integer, enumerated, real, octet_string, bit_string}
+use Rattle.x696.specs.Leaf.{Leaf, boolean, null, integer, enumerated, real, octet_string, bit_string, visible_string}
 use Rattle.x696.specs.Types.{leaf}
 use Rattle.x696.specs.Table.{row_kind, row_flags, row_a, row_b, row_first, row_count, item_width, numbers_from, type_by, type_of}
 use Rattle.x696.specs.TableFault.{row_sound}
