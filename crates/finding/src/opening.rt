@@ -38,8 +38,8 @@ fn open_sequence(
         return Ok(None);
     }
     let own = first + step as usize;
-    let bit = count_marked(table, first, step as usize);
-    let bits = bit + count_marked(table, own, (n - step) as usize);
+    let bit = count_marked(table.items, first, step as usize);
+    let bits = bit + count_marked(table.items, own, (n - step) as usize);
     // `div_ceil` would be five instructions in place of two, here and below
     if msg.len() - at < (bits + 7) / 8 {
         return Err(Cause::Short.at(at));
@@ -69,7 +69,7 @@ fn open_sequence(
         at: before.at,
         count: before.count,
         after: own + 1,
-        later: bit + is_marked(table, own),
+        later: bit + is_marked(table.items, own),
         left: n - (step + 1),
     }))
 }
@@ -127,7 +127,7 @@ fn open_choice(
     let n = table.row_count(row);
     let g = read_tag(msg, at, at)?;
     // a tag of the type
-    let Some(k) = find_tag(table, first, n, g.class, g.number) else {
+    let Some(k) = find_tag(table.items, first, n, g.class, g.number) else {
         return Err(Cause::NotAllowed.at(at));
     };
     Ok(Some(Opening {

@@ -16,27 +16,26 @@ use kinds::cursor::Cursor;
 use octets::faults::{Cause, Fault};
 use octets::nodes::put_node;
 use octets::presence::{is_present, low_bits_clear};
-use table::sound::Table;
-use table::words::component_default;
+use table::words::{component_default, component_mark, component_row, row_kind};
 
 // 1 where item i has a presence bit (16.2.3).
-pub fn is_marked(table: &Table, i: usize) -> usize
-    requires { i < length table.now.items.now / item_width }
-    ensures { (result ≡ presence_count (component_mark table.now.items.now i)) × (result ≤ 1) }
+pub fn is_marked(items: &[u64], i: usize) -> usize
+    requires { i < length items.now / item_width }
+    ensures { (result ≡ presence_count (component_mark items.now i)) × (result ≤ 1) }
 {
-    if table.component_mark(i) == 0 { 0 } else { 1 }
+    if component_mark(items, i) == 0 { 0 } else { 1 }
 }
 
 // How many of n components have one.
-pub fn count_marked(table: &Table, first: usize, n: usize) -> usize
-    requires { first + n ≤ length table.now.items.now / item_width }
-    ensures { (((f : ℕ → Ty) → result ≡ mark_count (components_from f table.now.items.now first n))) × (result ≤ n) }
+pub fn count_marked(items: &[u64], first: usize, n: usize) -> usize
+    requires { first + n ≤ length items.now / item_width }
+    ensures { (((f : ℕ → Ty) → result ≡ mark_count (components_from f items.now first n))) × (result ≤ n) }
 {
     let mut i = n;
     let mut sum = 0;
     while 0 < i {
         i -= 1;
-        sum += is_marked(table, first + i);
+        sum += is_marked(items, first + i);
     }
     sum
 }
@@ -77,22 +76,22 @@ pub fn read_missing(
 }
 
 // The row of a group's member: that of item i where members are listed.
-pub fn member_row(table: &Table, inner: usize, listed: bool, i: usize) -> usize
-    requires { listed ≡ true → i < length table.now.items.now / item_width }
-    ensures { result ≡ member_row table.now.items.now inner listed i }
+pub fn member_row(items: &[u64], inner: usize, listed: bool, i: usize) -> usize
+    requires { listed ≡ true → i < length items.now / item_width }
+    ensures { result ≡ member_row items.now inner listed i }
 {
     if listed {
-        table.component_row(i)
+        component_row(items, i) as usize
     } else {
         inner
     }
 }
 
-pub fn member_mark(table: &Table, listed: bool, i: usize) -> u64
-    requires { listed ≡ true → i < length table.now.items.now / item_width }
-    ensures { result ≡ member_mark table.now.items.now listed i }
+pub fn member_mark(items: &[u64], listed: bool, i: usize) -> u64
+    requires { listed ≡ true → i < length items.now / item_width }
+    ensures { result ≡ member_mark items.now listed i }
 {
-    if listed { table.component_mark(i) } else { 0 }
+    if listed { component_mark(items, i) } else { 0 }
 }
 
 // 1 where a component with this mark has a presence bit.
@@ -114,15 +113,11 @@ pub fn is_missing(msg: &[u8], pre: usize, b: usize, mark: u64) -> bool
 }
 
 // The kind of the node that then stands for it: ABSENT, or its DEFAULT's.
-pub fn missing_kind(table: &Table, row: usize, mark: u64) -> u64
-    requires { row < length table.now.rows.now / row_width }
-    ensures { result ≡ cond (eqb mark 1) 0 (row_kind table.now.rows.now row) }
+pub fn missing_kind(rows: &[u64], row: usize, mark: u64) -> u64
+    requires { row < length rows.now / row_width }
+    ensures { result ≡ cond (eqb mark 1) 0 (row_kind rows.now row) }
 {
-    if mark == 1 {
-        0
-    } else {
-        table.row_kind(row).number()
-    }
+    if mark == 1 { 0 } else { row_kind(rows, row) }
 }
 
 // Whether a component that is carried has the number of its DEFAULT, which item i gives (31.9).

@@ -5,18 +5,18 @@ ghost use Rattle.reading.specs.Parts.{TagsAscend, Chooses};
 
 use std::cmp::Ordering;
 use table::search::find_by;
-use table::sound::Table;
+use table::words::{tag_class, tag_number};
 
 // The place of a tag among the n alternatives from `first` on.
-pub fn find_tag(table: &Table, first: usize, n: usize, class: u64, number: u64) -> Option<usize>
-    requires { (first + n ≤ length table.now.items.now / item_width) × TagsAscend table.now.items.now first n }
-    ensures { Chooses table.now.items.now first n class number result }
+pub fn find_tag(items: &[u64], first: usize, n: usize, class: u64, number: u64) -> Option<usize>
+    requires { (first + n ≤ length items.now / item_width) × TagsAscend items.now first n }
+    ensures { Chooses items.now first n class number result }
 {
     // By class, then number. Compared as pairs they cost more: `decode` of small components misses its bar, 1.28.
     find_by(n, |i| {
         let k = first + i;
-        match table.tag_class(k).cmp(&class) {
-            Ordering::Equal => table.tag_number(k).cmp(&number),
+        match tag_class(items, k).cmp(&class) {
+            Ordering::Equal => tag_number(items, k).cmp(&number),
             order => order,
         }
     })

@@ -86,8 +86,8 @@ pub fn read_members(
     };
     let mut b = bit;
     for i in 0..n {
-        let mark = member_mark(table, listed, first + i);
-        let row = member_row(table, inner, listed, first + i);
+        let mark = member_mark(table.items, listed, first + i);
+        let row = member_row(table.items, inner, listed, first + i);
         reached = read_member(
             table,
             above,
@@ -129,7 +129,7 @@ fn read_member(
     ensures { Ran msg.now (member_at table.now.rows.now table.now.items.now msg.now mark i row pre b (message (drop at msg.now) count)) at count used nodes.old contents.old nodes.new contents.new result }
 {
     if is_missing(msg, pre, b, mark) {
-        let kind = missing_kind(table, row, mark);
+        let kind = missing_kind(table.rows, row, mark);
         return read_missing(
             kind,
             table.component_default(i),
@@ -225,7 +225,7 @@ fn read_sequence(
     let first = table.row_first(row);
     let n = table.row_count(row);
     put_node(nodes, count, Kind::Sequence.number(), n as u64);
-    let bits = count_marked(table, first, n);
+    let bits = count_marked(table.items, first, n);
     // `div_ceil` would be five instructions in place of two, here and below
     if msg.len() - at < (bits + 7) / 8 {
         return Err(Cause::Short.at(at));
@@ -313,7 +313,7 @@ fn read_choice(
     let n = table.row_count(row);
     let g = read_tag(msg, at, at)?;
     // a tag of the type
-    let Some(k) = find_tag(table, first, n, g.class, g.number) else {
+    let Some(k) = find_tag(table.items, first, n, g.class, g.number) else {
         return Err(Cause::NotAllowed.at(at));
     };
     put_node(nodes, count, Kind::Choice.number(), k as u64);

@@ -6,7 +6,7 @@ ghost use Rattle.writing.specs.Noted.{missing_at, marked};
 
 use octets::nodes::{node_kind, node_number};
 use octets::presence::put_presence;
-use table::sound::Table;
+use table::words::{component_default, row_kind};
 
 // Whether node `at`, which is there, has this kind and number.
 fn is_node(nodes: &[u64], at: usize, kind: u64, number: u64) -> bool
@@ -37,15 +37,16 @@ pub fn is_missing(nodes: &[u64], at: usize, kind: u64, mark: u64, default: u64) 
 
 // The same of a group's member; the default is that of item i.
 pub fn member_missing(
-    table: &Table,
+    rows: &[u64],
+    items: &[u64],
     row: usize,
     mark: u64,
     i: usize,
     nodes: &[u64],
     at: usize,
 ) -> bool
-    requires { (row < length table.now.rows.now / row_width) × ((mark ≡ 0 → ⊥) → i < length table.now.items.now / item_width) × (at ≤ 4096) }
-    ensures { result ≡ not (eqb mark 0) && missing_at nodes.now at (row_kind table.now.rows.now row) mark (component_default table.now.items.now i) }
+    requires { (row < length rows.now / row_width) × ((mark ≡ 0 → ⊥) → i < length items.now / item_width) × (at ≤ 4096) }
+    ensures { result ≡ not (eqb mark 0) && missing_at nodes.now at (row_kind rows.now row) mark (component_default items.now i) }
 {
     if mark == 0 {
         return false;
@@ -53,9 +54,9 @@ pub fn member_missing(
     is_missing(
         nodes,
         at,
-        table.row_kind(row).number(),
+        row_kind(rows, row),
         mark,
-        table.component_default(i),
+        component_default(items, i),
     )
 }
 

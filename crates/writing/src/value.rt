@@ -85,8 +85,8 @@ fn write_members(
     let mut pen = Pen { at, used, to };
     let mut b = 0;
     for i in 0..n {
-        let mark = member_mark(table, listed, first + i);
-        let row = member_row(table, inner, listed, first + i);
+        let mark = member_mark(table.items, listed, first + i);
+        let row = member_row(table.items, inner, listed, first + i);
         pen = write_member(
             table,
             above,
@@ -128,7 +128,7 @@ fn write_member(
     requires { (above ≤ length table.now.rows.now / row_width) × Member table.now.rows.now table.now.items.now above row mark i b × (length nodes.now ≤ 8192) × (at * node_width ≤ length nodes.now) × (used ≤ length contents.now) × (length contents.now ≤ 65535) × (to ≤ 65536 + (at * node_octets + used)) × (pre ≤ to) }
     ensures { Notes nodes.now contents.now mark (component_default table.now.items.now i) (type_of table.now.rows.now table.now.items.now row) (listed_at nodes.now contents.now at used) pre b at used to out.old out.new result }
 {
-    if member_missing(table, row, mark, i, nodes, at) {
+    if member_missing(table.rows, table.items, row, mark, i, nodes, at) {
         return Ok(Pen {
             at: at + 1,
             used,
@@ -204,7 +204,7 @@ fn write_sequence(
     }
     let first = table.row_first(row);
     // `div_ceil` would be five instructions in place of two
-    let octets = (count_marked(table, first, n) + 7) / 8;
+    let octets = (count_marked(table.items, first, n) + 7) / 8;
     put_zeros(out, to, octets);
     write_members(
         table,

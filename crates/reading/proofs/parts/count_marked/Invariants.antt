@@ -4,7 +4,7 @@ use Rattle.reading.proofs.Marks.{CountedFrom}
 use Rattle.reading.proofs.parts.count_marked.Given as goal
 
 abbrev pub invariant-loop-i : goal.invariant-loop-i
-invariant-loop-i l = CountedFrom l.table.items.now l.first l.n l.i l.sum
+invariant-loop-i l = CountedFrom l.items l.first l.n l.i l.sum
 
 abbrev pub decreases-loop-i : goal.decreases-loop-i
 decreases-loop-i l = l.i

@@ -11,5 +11,5 @@ component_default-requires c = c.requires.1 c.if-mark-eq0.false
 
 pub returns : goal.returns
 returns c =
-    rw (ne_eqb _ 0 c.if-mark-eq0.false, ← c.row_kind.ensures, ← c.number.ensures, ← c.component_default.ensures)
+    rw (ne_eqb _ 0 c.if-mark-eq0.false, ← c.row_kind.ensures, ← c.component_default.ensures)
     c.is_missing.ensures
