@@ -1,6 +1,6 @@
-// Readers of the kinds without components, 1 to 9. Those of kinds 1 to 6 answer a number and where the next octet stands.
+// Readers of the kinds without components. Those of kinds 1 to 6 answer a number and where the next octet stands.
 // Those of strings store node and contents, as far as there is room, and answer where the reading then stands. Each
-// answers a fault with number and place instead.
+// answers a fault, its cause and place, instead.
 #![tactic(auto)]
 
 pub mod bits;

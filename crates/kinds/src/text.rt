@@ -56,8 +56,12 @@ pub fn read_text(
     if !has_characters(shown, msg, run.start, n as usize) {
         return Err(Cause::NotAllowed.at(at));
     }
-    let kind = if shown { 9 } else { 7 };
-    put_node(nodes, count, kind, n);
+    let kind = if shown {
+        Kind::VisibleString
+    } else {
+        Kind::OctetString
+    };
+    put_node(nodes, count, kind.number(), n);
     copy(msg, run.start, n as usize, contents, used);
     Ok(Cursor {
         at: run.start + n as usize,

@@ -24,11 +24,9 @@ fn long_tag(msg: &[u8], start: usize, class: u64, place: usize) -> Result<Tag, F
     ensures { TagAnswer msg.now (long_tag class place (drop start msg.now)) start result }
 {
     let mut n = 0;
-    let mut i = start;
-    while i < msg.len() {
+    for i in start..msg.len() {
         let x = octet(msg, i);
         n = with_group(n, x % 128);
-        i += 1;
         if x < 128 {
             // below 63 the one octet is due (8.7.2.2); the first group is not 0 (8.7.2.3 c)
             let low = n < 63;
@@ -41,7 +39,7 @@ fn long_tag(msg: &[u8], start: usize, class: u64, place: usize) -> Result<Tag, F
             return Ok(Tag {
                 class,
                 number: n,
-                next: i,
+                next: i + 1,
             });
         }
     }

@@ -11,6 +11,9 @@ use crate::lengths::read_run;
 use crate::numbers::{is_fewest, is_fewest_signed, put_led, read_number, sign_extend};
 use crate::units::Occurrences;
 
+// Unsigned and signed numbers are read alike. By a trait of their sign they share six lines and need seven names and two laws more: no
+// plainer.
+
 // The unsigned number in a run of k octets: 6, then 8.
 fn unsigned_in(msg: &[u8], start: usize, k: usize, place: usize) -> Result<Number, Fault>
     requires { start + k ≤ length msg.now }

@@ -31,10 +31,8 @@ pub fn count_marked(items: &[u64], first: usize, n: usize) -> usize
     requires { first + n ≤ length items.now / item_width }
     ensures { (((f : ℕ → Ty) → result ≡ mark_count (components_from f items.now first n))) × (result ≤ n) }
 {
-    let mut i = n;
     let mut sum = 0;
-    while 0 < i {
-        i -= 1;
+    for i in (0..n).rev() {
         sum += is_marked(items, first + i);
     }
     sum

@@ -1,5 +1,5 @@
 -- `long_tag` meets its contract: one law for each `return`. Invariant: the octets from `start` to `i` are groups, each
--- with another one after it, and `n` is their number, capped (`Grouped`). Measure: the octets that are left.
+-- with another one after it, and `n` is their number, capped (`Grouped`).
 -- Assumes nothing.
 use mathlib.Core.Path.{refl}
 use native.Mathlib.Omega.{arith}
@@ -12,9 +12,6 @@ loop-i-init c = grouped_start _ _ c.requires
 
 pub with_group-n-requires : goal.with_group-n-requires
 with_group-n-requires c = (grouped_small c.loop-i.invariant, omega arith)
-
-pub overflow_add-i : goal.overflow_add-i
-overflow_add-i c = omega (arith)
 
 pub returns-then-low : goal.returns-then-low
 returns-then-low c =
@@ -35,9 +32,6 @@ returns-then-x-lt128 c =
     c.octet-x.ensures.0 c.octet-x.ensures.1 c.with_group-n.ensures.0
     c.if-x-lt128.true c.octet.ensures.0 c.if-low.false
     c.if-octet-eq128.false refl
-
-pub loop-i-smaller : goal.loop-i-smaller
-loop-i-smaller c = omega arith
 
 pub loop-i-preserved : goal.loop-i-preserved
 loop-i-preserved c =
