@@ -21,7 +21,13 @@ fn put_mark(table: &Table, s: Spot, nodes: &[u64], out: &mut [u8])
     if s.component.mark == 0 {
         return;
     }
-    let missing = is_missing(nodes, 0, table.row_kind(s.component.row).number(), s.component.mark, s.component.given);
+    let missing = is_missing(
+        nodes,
+        0,
+        table.row_kind(s.component.row).number(),
+        s.component.mark,
+        s.component.given,
+    );
     put_presence(out, s.pre, s.bit, !missing);
 }
 
@@ -41,9 +47,7 @@ pub fn splice(
     let start = s.start;
     let end = s.end;
     copy(msg, 0, start, out, 0);
-    let _new = write_component(
-        table, s.component, nodes, contents, 0, 0, start, out,
-    );
+    let _new = write_component(table, s.component, nodes, contents, 0, 0, start, out);
     copy(msg, end, msg.len() - end, out, start + n);
     put_mark(table, s, nodes, out);
 }

@@ -4,8 +4,8 @@ ghost use Rattle.x696.specs.Table.{row_width, type_of};
 ghost use Rattle.x696.specs.TableCheck.{default_sound};
 ghost use Rattle.encoding.specs.Measures.{ListAnswer};
 
-use table::component::ComponentType;
 use octets::faults::{Cause, Part, Refusal};
+use table::component::ComponentType;
 use table::sound::Table;
 use writing::value::write_component;
 
@@ -31,16 +31,7 @@ pub fn survey_list(
         return Err(Cause::Long.at(0).in_part(Part::List));
     }
     let mut out = [0u8; 1];
-    match write_component(
-        table,
-        component,
-        nodes,
-        contents,
-        0,
-        0,
-        0,
-        &mut out[..0],
-    ) {
+    match write_component(table, component, nodes, contents, 0, 0, 0, &mut out[..0]) {
         Err(fault) => Err(fault.in_part(Part::List)),
         Ok(end) => {
             if end.at < count {

@@ -68,5 +68,9 @@ pub fn read_setting(
     if s.absent {
         return Ok(Setting::Absent);
     }
-    Ok(setting_of(known_kind(rows, s.component.row), row_bounds(rows, s.component.row), s.number))
+    Ok(setting_of(
+        known_kind(rows, s.component.row),
+        row_bounds(rows, s.component.row),
+        s.number,
+    ))
 }

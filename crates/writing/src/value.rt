@@ -16,7 +16,6 @@ ghost use Rattle.reading.specs.Members.{Members, Member};
 ghost use Rattle.writing.specs.Members.{members, PutAll};
 ghost use Rattle.writing.specs.Noted.{Notes};
 
-use table::component::ComponentType;
 use crate::parts::{is_missing, member_missing, note_presence};
 use octets::faults::{Cause, Fault};
 use octets::nodes::{node_kind, node_number};
@@ -27,6 +26,7 @@ use octets::variable::put_quantity;
 use pens::leaf::write_leaf;
 use pens::pen::Pen;
 use reading::parts::{bit_of, count_marked, member_mark, member_row};
+use table::component::ComponentType;
 use table::kind::Kind;
 use table::sound::Table;
 
@@ -314,7 +314,13 @@ pub fn write_component(
     if component.mark == 0 {
         return write_value(table, component.row, nodes, contents, at, used, to, out);
     }
-    if is_missing(nodes, at, table.row_kind(component.row).number(), component.mark, component.given) {
+    if is_missing(
+        nodes,
+        at,
+        table.row_kind(component.row).number(),
+        component.mark,
+        component.given,
+    ) {
         return Ok(Pen {
             at: at + 1,
             used,
