@@ -1,9 +1,7 @@
 // A setting as five numbers, for print and for callers that cannot have an enum.
-ghost use Rattle.std.specs.Prelude.{◌≡◌, cond};
+ghost use Rattle.std.specs.Prelude.{◌≡◌};
 ghost use Rattle.std.specs.Float.{binary32, binary64};
 ghost use Rattle.std.specs.Float.Ieee.{to_bits};
-ghost use Rattle.std.specs.Int.{w64};
-ghost use Rattle.std.proofs.Common.{of_z};
 ghost use Rattle.showing.specs.Settings.{told};
 ghost use Rattle.showing.specs.Flat.{there_flat, flat_of, flat_answer};
 
@@ -20,13 +18,6 @@ pub struct FlatSetting {
     pub place: u64,
     pub what: u64,
     pub word: u64,
-}
-
-// The two's complement word of a signed number.
-fn signed_word(x: i64) -> u64
-    ensures { result ≡ of_z w64 x }
-{
-    if x < 0 { !((!x) as u64) } else { x as u64 }
 }
 
 // The bits of a single real; a NaN has those of the one NaN (document 01, REAL).
@@ -50,12 +41,6 @@ fn double_word(x: f64) -> u64
     }
 }
 
-fn truth_word(b: bool) -> u64
-    ensures { result ≡ cond b 1 0 }
-{
-    if b { 1 } else { 0 }
-}
-
 fn there(what: u64, word: u64) -> FlatSetting
     ensures { result ≡ there_flat what word }
 {
@@ -74,9 +59,9 @@ pub fn flatten(s: Setting) -> FlatSetting
 {
     match s {
         Setting::Absent => there(1, 0),
-        Setting::Truth(b) => there(2, truth_word(b)),
+        Setting::Truth(b) => there(2, u64::from(b)),
         Setting::Unsigned(n) => there(3, n),
-        Setting::Signed(x) => there(4, signed_word(x)),
+        Setting::Signed(x) => there(4, x.cast_unsigned()),
         Setting::Single(x) => there(5, single_word(x)),
         Setting::Double(x) => there(6, double_word(x)),
         Setting::Size(n) => there(7, n),

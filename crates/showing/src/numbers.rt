@@ -30,9 +30,5 @@ pub fn double_of(b: u64) -> f64
 pub fn signed_of(w: u64) -> i64
     ensures { result ≡ to_z w64 w }
 {
-    if w < 0x8000_0000_0000_0000 {
-        w as i64
-    } else {
-        !((!w) as i64)
-    }
+    w.cast_signed()
 }
