@@ -23,7 +23,7 @@ pub fn is_marked(items: &[u64], i: usize) -> usize
     requires { i < length items.now / item_width }
     ensures { (result ≡ presence_count (component_mark items.now i)) × (result ≤ 1) }
 {
-    if component_mark(items, i) == 0 { 0 } else { 1 }
+    bit_of(component_mark(items, i))
 }
 
 // How many of n components have one.
@@ -96,7 +96,7 @@ pub fn member_mark(items: &[u64], listed: bool, i: usize) -> u64
 pub fn bit_of(mark: u64) -> usize
     ensures { (result ≡ presence_count mark) × (result ≤ 1) }
 {
-    if mark == 0 { 0 } else { 1 }
+    usize::from(mark != 0)
 }
 
 // Whether a component with this mark, and presence bit b of the preamble at `pre`, is not carried.
