@@ -24,19 +24,24 @@ def files(commit):
             yield name.split("/")[1], git("show", f"{commit}:{name}") if commit else open(name).read()
 
 
+def closed(text, start, pair):
+    """The text from an opening sign to the one that closes it."""
+    depth = 0
+    for j in range(start, len(text)):
+        depth += (text[j] == pair[0]) - (text[j] == pair[1])
+        if depth == 0:
+            return text[start:j + 1]
+    return ""
+
+
 def body(text, start):
-    """The braces of the body: the first line that is `{` alone or ends a head with it, up to the brace that closes it."""
+    """The braces of the body, which a head without `;` ends with."""
     text = re.sub(r"//[^\n]*", "", text[start:])
     text = re.sub(r"(requires|ensures|decreases|ghost \w+ =) \{[^\n]*\}", "", text)
     i = text.find("{")
     if i < 0 or (0 <= text.find(";") < i and "[" not in text[:i]):
         return ""
-    depth = 0
-    for j in range(i, len(text)):
-        depth += (text[j] == "{") - (text[j] == "}")
-        if depth == 0:
-            return text[i:j + 1]
-    return ""
+    return closed(text, i, "{}")
 
 
 def form(code):
@@ -49,12 +54,7 @@ def parameters(text, start):
     opening = text.find("(", start)
     if "<" in text[start:opening] and ">" not in text[start:opening]:
         opening = text.find(">(", start) + 1
-    depth = 0
-    for j in range(opening, len(text)):
-        depth += (text[j] == "(") - (text[j] == ")")
-        if depth == 0:
-            return text[opening:j + 1]
-    return ""
+    return closed(text, opening, "()")
 
 
 def has(head, wanted):
