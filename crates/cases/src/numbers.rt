@@ -35,7 +35,7 @@ impl Numbers<'_> {
     // fills.
     fn list<'b, T: Copy, F: Fn(u64) -> T>(&mut self, out: &'b mut [T], of: F) -> &'b [T]
         requires { F.IsAlwaysCallable of }
-        ensures { length result.now ≤ length out.old }
+        ensures { (length result.now ≤ length out.old) × (length self.new.left.now ≤ length self.old.left.now) }
     {
         let n = self.number().min(out.len() as u64) as usize;
         let filled = &mut out[..n];
@@ -47,14 +47,14 @@ impl Numbers<'_> {
 
     // A list of words.
     pub fn words<'b>(&mut self, out: &'b mut [u64]) -> &'b [u64]
-        ensures { length result.now ≤ length out.old }
+        ensures { (length result.now ≤ length out.old) × (length self.new.left.now ≤ length self.old.left.now) }
     {
         self.list(out, |x| x)
     }
 
     // A list of octets; a number above 255 counts as 255.
     pub fn octets<'b>(&mut self, out: &'b mut [u8]) -> &'b [u8]
-        ensures { length result.now ≤ length out.old }
+        ensures { (length result.now ≤ length out.old) × (length self.new.left.now ≤ length self.old.left.now) }
     {
         self.list(out, |x| u8::try_from(x).unwrap_or(255))
     }
