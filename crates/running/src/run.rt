@@ -11,16 +11,13 @@ use oer::operations::check;
 use std::io;
 use std::io::Write;
 
-// The case of this letter over the table whose numbers these are.
+// The case of this letter over this table.
 fn run_case<W: Write>(
     to: &mut W,
     letter: u8,
-    table: Numbers<'_>,
+    table: Table<'_>,
     case: Numbers<'_>,
 ) -> io::Result<()> {
-    let mut rows = [0u64; MOST_ROW_WORDS];
-    let mut items = [0u64; MOST_ITEM_WORDS];
-    let table = Table::read(table, &mut rows, &mut items);
     match letter {
         b'c' => writeln!(to, "{}", check(table.rows, table.items)),
         b'm' => run_message(to, table, case),
@@ -31,14 +28,28 @@ fn run_case<W: Write>(
     }
 }
 
-// Runs the cases of a text, each over the table of the last line that has one.
+// Runs the cases of a text, each over the table of the last line that has one. A table is read at its own line, and not again at each
+// case over it; how much of the memory it fills is kept, since no table may stand while its memory is lent anew.
 pub fn run<W: Write>(to: &mut W, text: &[u8]) -> io::Result<()> {
-    let mut table = Numbers { left: &[] };
+    let mut rows = [0u64; MOST_ROW_WORDS];
+    let mut items = [0u64; MOST_ITEM_WORDS];
+    let mut row_words = 0;
+    let mut item_words = 0;
     for line in Lines(text) {
         match line.octets {
             [b'#', ..] => to.write_all(line.octets)?,
-            [b't', _, _, ..] => table = line.numbers(),
-            [letter, _, _, ..] => run_case(to, *letter, table, line.numbers())?,
+            [b't', _, _, ..] => {
+                let table = Table::read(line.numbers(), &mut rows, &mut items);
+                row_words = table.rows.len();
+                item_words = table.items.len();
+            }
+            [letter, _, _, ..] => {
+                let (Some(rows), Some(items)) = (rows.get(..row_words), items.get(..item_words))
+                else {
+                    return Ok(());
+                };
+                run_case(to, *letter, Table { rows, items }, line.numbers())?;
+            }
             _ => to.write_all(b"\n")?,
         }
     }
