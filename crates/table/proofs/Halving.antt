@@ -1,7 +1,7 @@
 -- What halving finds among n places: places below `low` compare less and those from `high` on greater, so that what is sought lies
 -- between, or is not there. Then the numbers of an ENUMERATED. Assumes nothing.
-use Rattle.std.proofs.Common.{◌≡◌, refl, sym, ◌∙◌, ℕ, zero, suc, ◌+◌, ◌^◌, ◌<◌, ◌≤◌, true, false, List, Option, Some, None, Ordering, Less, Equal, Greater, get_or, add-zero, eqb, arith}
-use Rattle.std.specs.Ordering.{nat_cmp, ordering_index}
+use Rattle.std.proofs.Common.{◌≡◌, refl, sym, ◌∙◌, ℕ, zero, suc, ◌+◌, ◌^◌, ◌<◌, ◌≤◌, Bool, true, false, List, Option, Some, None, Ordering, Less, Equal, Greater, get_or, add-zero, eqb, arith}
+use Rattle.std.specs.Ordering.{nat_cmp, ordering_index, is_eq}
 use Rattle.std.specs.Option.{is_some}
 use borrow.Author.Tests.{tests, eq-eqb, ne_eqb}
 use Rattle.x696.proofs.OutcomeLaws.{cases, cases_lt}
@@ -9,6 +9,17 @@ use Rattle.x696.specs.Integer.{rank}
 use Rattle.x696.specs.Enumerated.{listed}
 use Rattle.x696.specs.Table.{item_word, enumerated_number, numbers_from}
 use Rattle.table.specs.Orders.{Ascends, Rises, FindsBy}
+
+-- what a test for equal tells of an order, and what is left behind it
+pub equal_is : (o : Ordering) {t : Bool} → t ≡ is_eq o → t ≡ true → o ≡ Equal
+equal_is Less e h = absurd (cc)
+equal_is Equal e h = refl
+equal_is Greater e h = absurd (cc)
+
+pub greater_left : (o : Ordering) {t : Bool} → t ≡ is_eq o → t ≡ false → (o ≡ Less → ⊥) → o ≡ Greater
+greater_left Less e h less = absurd (less refl)
+greater_left Equal e h less = absurd (cc)
+greater_left Greater e h less = refl
 
 at_most : (o p : Ordering) → ordering_index o ≤ ordering_index p → p ≡ Less → o ≡ Less
 at_most Less p h e = refl
