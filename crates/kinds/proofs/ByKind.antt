@@ -1,9 +1,10 @@
 -- The type of a sound row by its kind, where it has no components: which reader's answer is the row's.
 -- Premises are the callees' `ensures` and the tests as they went. Assumes nothing.
-use mathlib.Core.Path.{◌≡◌}
-use mathlib.Core.Bool.{true}
+use mathlib.Core.Path.{◌≡◌, refl}
+use mathlib.Core.Bool.{Bool, true, false}
 use mathlib.Core.List.{List}
-use Prim.Native.Nat.{ℕ, ◌+◌, ◌/◌, ◌≤◌}
+use Prim.Native.Nat.{ℕ, ◌+◌, ◌/◌, ◌≤◌, ◌<◌}
+use native.Mathlib.Omega.{arith}
 use lib.ListN.{length}
 use Rattle.x696.specs.Outcome.{choose}
 use Rattle.x696.specs.Real.{binary32, binary64}
@@ -16,14 +17,26 @@ use Rattle.x696.proofs.TableRows.{enumerated_row}
 use Rattle.table.specs.Orders.{Ascends}
 use Rattle.table.specs.Kind.{code_of}
 use Rattle.table.proofs.KindNumbers.{kind_number}
+use Rattle.std.specs.Prelude.{◌⊎◌}
+use Rattle.std.proofs.Math.Logic.{inl, inr, ⊎_elim}
+use denote.Enum.Bare.{sameb}
+use Rattle.table.specs.contracts.kind.Kind.{the_type}
 use Rattle.table.specs.declared.kind.Kind.{Kind}
 use Rattle.table.specs.declared.kind.Kind.TheVariants.{Boolean, Integer, Enumerated, Single, Double, Null}
 use Rattle.table.specs.declared.kind.Kind.TheVariants.{OctetString, BitString, VisibleString}
-use Rattle.kinds.specs.Run.{ScalarAnswer, Ran, inside_at, leaf_at}
+use Rattle.kinds.specs.Run.{ScalarAnswer, Ran, inside_at, leaf_at, text_leaf}
 use Rattle.std.proofs.Common.{Result}
 use Rattle.octets.specs.declared.faults.Fault.{Fault}
 use Rattle.octets.specs.declared.answers.Number.{Number}
 use Rattle.kinds.specs.declared.cursor.Cursor.{Cursor}
+
+-- a string that is not of bits: as the code asks which it is
+shown_or_not : (k : Kind) → 7 ≤ code_of k → code_of k < 10 → (k ≡ BitString → ⊥) → {v : Bool} → v ≡ sameb the_type k VisibleString
+    → ((v ≡ true) × (k ≡ VisibleString)) ⊎ ((v ≡ false) × (k ≡ OctetString))
+shown_or_not OctetString l h b e = inr (e, refl)
+shown_or_not BitString l h b e = absurd (b refl)
+shown_or_not VisibleString l h b e = inl (e, refl)
+shown_or_not _ l h b e = absurd (omega arith)
 
 module _ (rows items : List ℕ) (row : ℕ) where
   -- the answer for a row's type
@@ -79,3 +92,13 @@ module _ (rows items : List ℕ) (row : ℕ) where
       pub visible_type : kind ≡ VisibleString → type_of rows items row ≡ leaf (visible_string f a b)
       unfolding type_by choose
       visible_type e = rw (type_of_row rows items row, ← ek, e, ← ef, ← ea, ← eb)
+
+      -- of the strings, those that are not of bits
+      pub text_type : 7 ≤ code_of kind → code_of kind < 10 → (kind ≡ BitString → ⊥) → {v : Bool}
+          → v ≡ sameb the_type kind VisibleString → type_of rows items row ≡ leaf (text_leaf v f a b)
+      unfolding text_leaf
+      text_type h g bits same =
+          ⊎_elim
+          (λ is. rw is.0 (visible_type is.1))
+          (λ is. rw is.0 (octets_type is.1))
+          (shown_or_not kind h g bits same)

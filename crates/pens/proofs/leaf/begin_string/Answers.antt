@@ -1,7 +1,7 @@
 -- The answer of the writer of the row's kind, of those with contents. Assumes nothing.
 use Rattle.std.proofs.Common.{arith}
-use Rattle.kinds.proofs.ByKind.{bits_type}
-use Rattle.pens.proofs.ByRow.{headed_row, text_type}
+use Rattle.kinds.proofs.ByKind.{bits_type, text_type}
+use Rattle.pens.proofs.ByRow.{headed_row}
 use Rattle.pens.proofs.leaf.begin_string.Goals as goal
 
 pub returns-in-BitString : goal.returns-in-BitString
