@@ -54,18 +54,20 @@ fn there(what: u64, word: u64) -> FlatSetting
 }
 
 // Ruled out, for instance: a signed number as an unsigned one, and a real's value in place of its bits.
-pub fn flatten(s: Setting) -> FlatSetting
-    ensures { result ≡ flat_of s }
-{
-    match s {
-        Setting::Absent => there(1, 0),
-        Setting::Truth(b) => there(2, u64::from(b)),
-        Setting::Unsigned(n) => there(3, n),
-        Setting::Signed(x) => there(4, x.cast_unsigned()),
-        Setting::Single(x) => there(5, single_word(x)),
-        Setting::Double(x) => there(6, double_word(x)),
-        Setting::Size(n) => there(7, n),
-        Setting::Group(n) => there(8, n),
+impl From<Setting> for FlatSetting {
+    ghost from_gives = { λ s f. f ≡ flat_of s };
+
+    fn from(setting: Setting) -> Self {
+        match setting {
+            Setting::Absent => there(1, 0),
+            Setting::Truth(b) => there(2, u64::from(b)),
+            Setting::Unsigned(n) => there(3, n),
+            Setting::Signed(x) => there(4, x.cast_unsigned()),
+            Setting::Single(x) => there(5, single_word(x)),
+            Setting::Double(x) => there(6, double_word(x)),
+            Setting::Size(n) => there(7, n),
+            Setting::Group(n) => there(8, n),
+        }
     }
 }
 
@@ -74,7 +76,7 @@ impl From<Result<Setting, Refusal>> for FlatSetting {
 
     fn from(answer: Result<Setting, Refusal>) -> Self {
         match answer {
-            Ok(setting) => flatten(setting),
+            Ok(setting) => FlatSetting::from(setting),
             Err(refusal) => FlatSetting {
                 number: refusal.cause.number(),
                 part: refusal.part.number(),
@@ -84,6 +86,13 @@ impl From<Result<Setting, Refusal>> for FlatSetting {
             },
         }
     }
+}
+
+// A setting, or the answer of a reading, refused or not.
+pub fn flatten<A: Into<FlatSetting>>(answer: A) -> FlatSetting
+    ensures { A.converts answer result }
+{
+    answer.into()
 }
 
 // The five numbers, parted by spaces.

@@ -7,7 +7,7 @@ use Rattle.showing.proofs.flat.FlatSettingFromResultSettingRefusal.from.Goals as
 
 pub returns-in-Ok : goal.returns-in-Ok
 unfolding told flat_answer
-returns-in-Ok c = rw (c.flatten.ensures, c.in-Ok.is) refl
+returns-in-Ok c = rw (c.from.ensures, c.in-Ok.is) refl
 
 pub returns-in-Err : goal.returns-in-Err
 unfolding told flat_answer

@@ -6,7 +6,7 @@ use mir.Syntax.{w64}
 use mir.Val.{SFits, bool_byte}
 use mir.ValLaws.{to_z-of_z}
 use Rattle.showing.specs.Flat.{flat_of}
-use Rattle.showing.proofs.flat.flatten.Goals as goal
+use Rattle.showing.proofs.flat.FlatSettingFromSetting.from.Goals as goal
 
 truth_word : (b : Bool) → bool_byte b ≡ cond b 1 0
 unfolding bool_byte
