@@ -19,7 +19,7 @@ use Rattle.x696.specs.Fewest.{fewest, magnitude, fewest_signed, magnitude_in, is
 use Rattle.x696.proofs.FewestLaws.{fewest_is, fewest_pos, fewest_least}
 
 -- from 2 ^ (8 * j) on, and from 0 on for j = 0, up to 2 ^ (8 * (j + 1)) there are j + 1
-fewest_between : (j n : ℕ) → (1 ≤ j → 2 ^ (8 * j) ≤ n) → n < 2 ^ (8 * suc j) → suc j ≡ fewest 8 n
+pub fewest_between : (j n : ℕ) → (1 ≤ j → 2 ^ (8 * j) ≤ n) → n < 2 ^ (8 * suc j) → suc j ≡ fewest 8 n
 fewest_between zero n g h = omega (arith, fewest_pos 8 n, fewest_least 8 n 0 h)
 fewest_between (suc j) n g h = sym (fewest_is 8 n (suc j) (omega arith) h (g (omega arith)))
 

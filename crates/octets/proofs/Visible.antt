@@ -24,7 +24,7 @@ both_right true q f = refl
 both_right false true f = absurd (false≢true (f refl))
 both_right false false f = refl
 
-above_min : (a b m : ℕ) → leb m (min a b) ≡ leb m a && leb m b
+pub above_min : (a b m : ℕ) → leb m (min a b) ≡ leb m a && leb m b
 above_min a b m =
     cases_lt a b
     (λ _ h.
@@ -34,7 +34,7 @@ above_min a b m =
     let e : min a b ≡ b = omega arith in
     rw e (both_right (leb m a) (leb m b) λ t. let g : m ≤ b = leb-true m b t in le-leb m a (omega arith)))
 
-below_max : (a b m : ℕ) → leb (max a b) m ≡ leb a m && leb b m
+pub below_max : (a b m : ℕ) → leb (max a b) m ≡ leb a m && leb b m
 below_max a b m =
     cases_lt a b
     (λ _ h.

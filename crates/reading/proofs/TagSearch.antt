@@ -19,14 +19,14 @@ use Rattle.reading.specs.Parts.{TagsAscend, Chooses}
 abbrev pub compared : (c m class number : ℕ) → Ordering
 compared c m class number = ordering_then (nat_cmp c class) (nat_cmp m number)
 
-later : (c m d k class number : ℕ) → ltb c d || (eqb c d && ltb m k) ≡ true
+pub later : (c m d k class number : ℕ) → ltb c d || (eqb c d && ltb m k) ≡ true
     → ordering_index (compared c m class number) ≤ ordering_index (compared d k class number)
 later c m d k class number h = grind (arith, tests)
 
 same : (c m class number : ℕ) → compared c m class number ≡ Equal → (class ≡ c) × (number ≡ m)
 same c m class number e = grind (arith, tests)
 
-other : (c m class number : ℕ) → (compared c m class number ≡ Equal → ⊥) → eqb class c && eqb number m ≡ false
+pub other : (c m class number : ℕ) → (compared c m class number ≡ Equal → ⊥) → eqb class c && eqb number m ≡ false
 other c m class number h = grind (arith, tests)
 
 -- ---- the alternatives
@@ -35,7 +35,7 @@ module _ (items : List ℕ) (class number : ℕ) where
   Other i = eqb class (tag_class items i) && eqb number (tag_number items i) ≡ false
 
   -- a tag that no alternative has
-  alternative_none : (f : ℕ → Ty) (first n : ℕ) → Each Other first n
+  pub alternative_none : (f : ℕ → Ty) (first n : ℕ) → Each Other first n
       → n ≡ alternative (alternatives_from f items first n) (tag class number)
   unfolding alternative choose items_from
   alternative_none f first zero h = refl
@@ -44,7 +44,7 @@ module _ (items : List ℕ) (class number : ℕ) where
 
   module _ (first n : ℕ) (ascends : TagsAscend items first n) where
     -- the tag that the alternative at i has
-    alternative_found : (f : ℕ → Ty) {i : ℕ} → i < n → class ≡ tag_class items (first + i)
+    pub alternative_found : (f : ℕ → Ty) {i : ℕ} → i < n → class ≡ tag_class items (first + i)
         → number ≡ tag_number items (first + i) → i ≡ alternative (alternatives_from f items first n) (tag class number)
     alternative_found f {i} h p q =
         rw (p, q, ← alternatives_tag items f first n i h)
