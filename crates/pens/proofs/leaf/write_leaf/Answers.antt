@@ -16,7 +16,9 @@ begin_string-requires c =
     (c.requires.0, c.known_kind-kind.ensures, more, less, c.requires.4, c.requires.5, omega (arith, c.requires))
 
 pub copy-requires : goal.copy-requires
-copy-requires c = (c.begin_string.ensures.headed.went _ c.in-Ok.is).within
+copy-requires c =
+    let h = c.begin_string.ensures.headed.went _ c.in-Ok.is in
+    omega (arith, h.within)
 
 pub overflow_add-result-in-Ok : goal.overflow_add-result-in-Ok
 overflow_add-result-in-Ok c =
