@@ -1,5 +1,5 @@
 // The lines of a text.
-ghost use Rattle.std.specs.Prelude.{◌≡◌, ◌+◌, ◌<◌, ◌≤◌, ◌++◌, MatchOption, length};
+ghost use Rattle.std.specs.Prelude.{◌≡◌, ◌<◌, ◌≤◌, ◌++◌, MatchOption, length, drop};
 ghost use Rattle.std.specs.Iterator.{at_most};
 
 use crate::numbers::Numbers;
@@ -16,7 +16,7 @@ impl<'a> Line<'a> {
     // The numbers behind a letter and a space.
     pub fn numbers(self) -> Numbers<'a>
         requires { 2 ≤ length self.octets.now }
-        ensures { length result.left.now + 2 ≡ length self.entry.text.now }
+        ensures { result.left.now ≡ drop 2 self.entry.text.now }
     {
         Numbers {
             left: &self.text[2..],

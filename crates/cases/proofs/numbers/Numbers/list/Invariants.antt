@@ -1,7 +1,7 @@
--- Ends inside the text. Invariant: no octet comes back.
+-- What is left is an end of the text. Invariant: it is at each turn.
 -- Assumes nothing.
-use Rattle.std.proofs.Common.{◌≤◌, length}
+use Rattle.cases.specs.Ends.{IsEndOf}
 use Rattle.cases.proofs.numbers.Numbers.list.Given as goal
 
 abbrev pub invariant-loop-place : goal.invariant-loop-place
-invariant-loop-place g l = length l.self.left.now ≤ length l.fn.self.left.now
+invariant-loop-place g l = IsEndOf l.self.left.now l.fn.self.left.now
