@@ -10,7 +10,7 @@ ghost use Rattle.oer.specs.Promises.{Checks, Validates, Decodes, Measures, Encod
 ghost use Rattle.oer_c.specs.TextParts.{part_as};
 
 use oer::operations::{check, decode, edit, encode, measure, read_setting, validate};
-use showing::flat::FlatSetting;
+use showing::flat::{FlatSetting, flatten};
 use showing::texts::find_text;
 use table::reply::Reply;
 
@@ -105,7 +105,7 @@ pub extern "C" fn oer_read_setting(
 ) -> FlatSetting
     ensures { result ≡ flat_answer (answer_as (read_setting rows.now items.now row msg.now path.now)) }
 {
-    FlatSetting::from(read_setting(rows, items, row, msg, path))
+    flatten(read_setting(rows, items, row, msg, path))
 }
 
 // The string at a path as the part of the message that holds its octets.

@@ -46,7 +46,7 @@ pub fn run<W: Write>(to: &mut W, text: &[u8]) -> io::Result<()> {
             [letter, _, _, ..] => {
                 let (Some(rows), Some(items)) = (rows.get(..row_words), items.get(..item_words))
                 else {
-                    return Ok(());
+                    continue;
                 };
                 run_case(to, *letter, Table { rows, items }, line.numbers())?;
             }

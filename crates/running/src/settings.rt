@@ -4,7 +4,7 @@ use crate::{MOST_FALLBACK, MOST_OCTETS, MOST_STEPS};
 use cases::numbers::Numbers;
 use cases::tables::Table;
 use oer::operations::{read_setting, show_text};
-use showing::flat::FlatSetting;
+use showing::flat::flatten;
 use std::io;
 use std::io::Write;
 
@@ -21,10 +21,6 @@ pub fn run_setting<W: Write>(
     let msg = case.octets(&mut msg);
     let path = case.words(&mut path);
     let fallback = case.octets(&mut fallback);
-    write!(
-        to,
-        "{}",
-        FlatSetting::from(read_setting(rows, items, row, msg, path))
-    )?;
+    write!(to, "{}", flatten(read_setting(rows, items, row, msg, path)))?;
     print_octets(to, show_text(rows, items, row, msg, path, fallback))
 }

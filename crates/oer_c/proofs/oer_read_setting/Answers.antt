@@ -6,4 +6,4 @@ use Rattle.oer.proofs.ContractLaws.{setting_iff}
 use Rattle.oer_c.proofs.oer_read_setting.Goals as goal
 
 pub returns : goal.returns
-returns c = c.from.ensures ∙ ap flat_answer ((setting_iff _ _ _ _ _ _).0 c.read_setting.ensures)
+returns c = c.flatten.ensures ∙ ap flat_answer ((setting_iff _ _ _ _ _ _).0 c.read_setting.ensures)
