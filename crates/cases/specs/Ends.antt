@@ -1,4 +1,4 @@
--- What is left of a text: an end of it, so that it lies inside the text and in no other.
+-- What is left of a text: an end of it, by its octets, so that it is no longer than the text.
 -- Assumes nothing.
 use Rattle.std.specs.Prelude.{◌≡◌, List, ℕ, ◌-◌, length, drop}
 
